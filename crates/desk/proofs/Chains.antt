@@ -1,0 +1,88 @@
+-- The chain of refusals: for a table whose numbers rise, the code's chain of tests tells the smallest number that applies.
+use Prim.Native.Nat.{ℕ, zero, suc, _+_, _≤_, _<_, min}
+use mathlib.Core.Path.{_≡_, refl, sym, ap, _∙_}
+use mathlib.Core.Logic.{_≢_}
+use mathlib.Core.Bool.{Bool, true, false, not, _&&_, cond}
+use mathlib.Core.List.{List, [], _∷_, map}
+use native.Mathlib.Omega.{arith}
+use lib.Dec.{leb, eqb}
+use Rattle.rules.specs.declared.answers.Refusal.{Refusal}
+use Rattle.rules.specs.declared.answers.Answer.{Answer}
+use Rattle.rules.specs.Lists.{all}
+use Rattle.rules.specs.Replies.{Reply, numberOf, told, refuse, smaller, smallest, plain}
+use borrow.Author.Tests.{leb-true}
+use Rattle.rules.proofs.Tests.{both}
+use Rattle.rules.proofs.Told.{refusal-number}
+use Rattle.desk.specs.Parts.{isDone}
+
+-- an entry of a chain: the refusal, and whether it applies
+abbrev pub Entry : Type 0
+Entry = Refusal × Bool
+
+-- the chain as the code builds it
+abbrev pub chain : List Entry → Answer
+chain [] = Answer.Done
+chain (e ∷ es) = cond (e .1) (Answer.Refused (e .0)) (chain es)
+
+-- the table of numbers that it stands for
+abbrev pub entry : Entry → ℕ × Bool
+entry e = refuse (e .0) (e .1)
+
+-- no number after the first is smaller
+unfoldable pub notBelow : ℕ → List Entry → Bool
+notBelow n es = all (λ e. leb n (numberOf (e .0))) es
+
+abbrev pub rising : List Entry → Bool
+rising [] = true
+rising (e ∷ es) = notBelow (numberOf (e .0)) es && rising es
+
+-- 0, or not below n
+Least : ℕ → ℕ → Type 0
+Least n m = m ≢ 0 → n ≤ m
+
+smaller-least : (n k m : ℕ) → n ≤ k → Least n m → Least n (smaller k m)
+unfolding Least
+smaller-least n k zero h l z = h
+smaller-least n k (suc m) h l z = omega (arith, l (λ e. omega arith))
+
+smallest-least : (n : ℕ) (es : List Entry) → notBelow n es ≡ true → Least n (smallest (map entry es))
+unfolding notBelow all smallest Least
+smallest-least n [] h z = absurd (z refl)
+smallest-least n (e ∷ es) h z = go (e .1) refl (smallest-least n es (both (leb n (numberOf (e .0))) (notBelow n es) h .1)) z
+  where
+    go : (t : Bool) → e .1 ≡ t → (smallest (map entry es) ≢ 0 → n ≤ smallest (map entry es))
+        → cond t (smaller (numberOf (e .0)) (smallest (map entry es))) (smallest (map entry es)) ≢ 0
+        → n ≤ cond (e .1) (smaller (numberOf (e .0)) (smallest (map entry es))) (smallest (map entry es))
+    go true p ih z = rw p (unfold Least in smaller-least n (numberOf (e .0)) (smallest (map entry es)) (leb-true n (numberOf (e .0)) (both (leb n (numberOf (e .0))) (notBelow n es) h .0)) ih z)
+    go false p ih z = rw p (ih z)
+
+-- the first that applies is the smallest
+smaller-first : (n m : ℕ) → Least n m → smaller n m ≡ n
+unfolding Least
+smaller-first n zero l = refl
+smaller-first n (suc m) l = omega (arith, l (λ e. omega arith))
+
+pub chain-told : (es : List Entry) → rising es ≡ true → told (chain es) ≡ plain (smallest (map entry es))
+unfolding told smallest
+chain-told [] h = refl
+chain-told (e ∷ es) h = go (e .1) refl (chain-told es (both (notBelow (numberOf (e .0)) es) (rising es) h .1))
+  where
+    go : (t : Bool) → e .1 ≡ t → told (chain es) ≡ plain (smallest (map entry es))
+        → told (cond (e .1) (Answer.Refused (e .0)) (chain es)) ≡ plain (cond (e .1) (smaller (numberOf (e .0)) (smallest (map entry es))) (smallest (map entry es)))
+    go true p ih = rw (p, smaller-first (numberOf (e .0)) (smallest (map entry es)) (smallest-least (numberOf (e .0)) es (both (notBelow (numberOf (e .0)) es) (rising es) h .0)))
+    go false p ih = rw p ih
+
+-- what is done was not refused, and what was refused was not done
+pub done-number : (a : Answer) (n : ℕ) → told a ≡ plain n → isDone a ≡ true → n ≡ 0
+unfolding told
+done-number Answer.Done n e d = sym (ap (λ (r : Reply). r .number) e)
+done-number (Answer.Sent p) n e d = sym (ap (λ (r : Reply). r .number) e)
+done-number (Answer.Traced k) n e d = sym (ap (λ (r : Reply). r .number) e)
+done-number (Answer.Refused r) n e d = absurd (mathlib.Core.Bool.false≢true d)
+
+pub refused-number : (a : Answer) (n : ℕ) → told a ≡ plain n → isDone a ≡ false → n ≢ 0
+unfolding told
+refused-number Answer.Done n e d = absurd (mathlib.Core.Bool.true≢false d)
+refused-number (Answer.Sent p) n e d = absurd (mathlib.Core.Bool.true≢false d)
+refused-number (Answer.Traced k) n e d = absurd (mathlib.Core.Bool.true≢false d)
+refused-number (Answer.Refused r) n e d = λ z. omega (arith, refusal-number r, ap (λ (r : Reply). r .number) e)

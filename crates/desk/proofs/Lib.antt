@@ -1,0 +1,4 @@
+pub mod Laws
+pub mod Frames
+pub mod Chains
+pub mod Books

@@ -1,0 +1,130 @@
+// The frame test, every clause of document 01 but the history's, on any desk and any three tables.
+use crate::fields::is_within;
+use rules::desk::Desk;
+ghost use mathlib.Core.Path.{_≡_};
+ghost use mathlib.Core.Bool.{_&&_};
+ghost use lib.Dec.{leb, ltb, eqb};
+ghost use lib.ListN.{length};
+ghost use Rattle.rules.specs.Limits.{within, isMember, isAsset, isAmount, isPayee};
+ghost use Rattle.rules.specs.Lists.{all};
+ghost use Rattle.rules.specs.Frame.{inFrame};
+ghost use Rattle.rules.specs.Answer.{bookOf};
+ghost use Rattle.desk.specs.Parts.{inboxFrame, outboxFrame, listsFrame, countsFrame};
+
+// Whether a desk with these three tables is in frame.
+pub fn in_frame(d: Desk, inbox: &[u64], outbox: &[u64], history: &[u64]) -> bool
+    ensures { λ r. ⌜ r ≡ inFrame (bookOf d (now (inbox .entry)) (now (outbox .entry)) (now (history .entry))) ⌝ }
+{
+    let last = d.last;
+    let next = d.next;
+    counts_in_frame(d, history.len())
+        & (lists_in_frame(d)
+            & (inbox_in_frame(inbox, d.unclaimed, last.0)
+                & outbox_in_frame(outbox, d.payments, next.0)))
+}
+
+// The counts and the counters of the desk, and the size of the history's table.
+fn counts_in_frame(d: Desk, size: usize) -> bool
+    ensures { λ r. ⌜ r ≡ countsFrame d size ⌝ }
+{
+    let last = d.last;
+    let next = d.next;
+    (size == 5120)
+        & ((d.records <= 1024)
+            & ((d.inflight <= d.payments) & ((last.0 <= 4294967295) & (next.0 <= 1024))))
+}
+
+// The balances, the totals and the holders of the desk.
+fn lists_in_frame(d: Desk) -> bool
+    ensures { λ r. ⌜ r ≡ listsFrame d ⌝ }
+{
+    all_within(&d.balances, 0, 1000000000000000)
+        & (all_within(&d.lifetime, 0, 1000000000000000)
+            & (all_within(&d.settled, 0, 1000000000000000) & all_within(&d.holders, 1, 16)))
+}
+
+// Whether every number of the slice is from lo to hi.
+fn all_within(s: &[u64], lo: u64, hi: u64) -> bool
+    ensures { λ r. ⌜ r ≡ all (within lo hi) (now (s .entry)) ⌝ }
+{
+    let mut i: usize = 0;
+    while i < s.len() {
+        if !is_within(lo, hi, s[i]) {
+            return false;
+        }
+        i += 1;
+    }
+    true
+}
+
+// The inbox: its size, its count, and each used row against the one before it.
+fn inbox_in_frame(t: &[u64], n: usize, last: u64) -> bool
+    ensures { λ r. ⌜ r ≡ inboxFrame (now (t .entry)) n last ⌝ }
+{
+    if t.len() != 256 {
+        return false;
+    }
+    if 64 < n {
+        return false;
+    }
+    let mut i: usize = 0;
+    let mut before: u64 = 0;
+    while i < n {
+        let at = i * 4;
+        let number = t[at];
+        if !deposit_in_frame(before, last, number, t[at + 1], t[at + 2], t[at + 3]) {
+            return false;
+        }
+        before = number;
+        i += 1;
+    }
+    true
+}
+
+fn deposit_in_frame(
+    before: u64,
+    last: u64,
+    number: u64,
+    asset: u64,
+    amount: u64,
+    member: u64,
+) -> bool
+    ensures { λ r. ⌜ r ≡ (isMember member && (isAsset asset && isAmount amount)) && (ltb before number && leb number last) ⌝ }
+{
+    (is_within(1, 16, member) & (is_within(1, 8, asset) & is_within(1, 1000000000000000, amount)))
+        & ((before < number) & (number <= last))
+}
+
+// The outbox: its size, its count, and each used row with the nonce that is due.
+fn outbox_in_frame(t: &[u64], n: usize, next: u64) -> bool
+    ensures { λ r. ⌜ r ≡ outboxFrame (now (t .entry)) n next ⌝ }
+{
+    if t.len() != 128 {
+        return false;
+    }
+    if 32 < n {
+        return false;
+    }
+    let used = n as u64;
+    if next < used {
+        return false;
+    }
+    let mut i: usize = 0;
+    let mut due = next - used;
+    while i < n {
+        let at = i * 4;
+        if !payment_in_frame(due, t[at], t[at + 1], t[at + 2], t[at + 3]) {
+            return false;
+        }
+        due += 1;
+        i += 1;
+    }
+    true
+}
+
+fn payment_in_frame(due: u64, asset: u64, amount: u64, payee: u64, nonce: u64) -> bool
+    ensures { λ r. ⌜ r ≡ (isAsset asset && (isAmount amount && isPayee payee)) && eqb nonce due ⌝ }
+{
+    (is_within(1, 8, asset) & (is_within(1, 1000000000000000, amount) & is_within(1, 65535, payee)))
+        & (nonce == due)
+}

@@ -1,0 +1,50 @@
+-- The desk after a transfer and after a grant: what the rules do to its lists, and one record more.
+use Prim.Native.Nat.{ℕ, _+_, _-_, _≤_, _<_}
+use mathlib.Core.Path.{_≡_}
+use mathlib.Core.Bool.{true}
+use mathlib.Core.List.{List}
+use Rattle.rules.specs.declared.desk.Desk.{Desk}
+use Rattle.rules.specs.declared.calls.TransferFields.{TransferFields}
+use Rattle.rules.specs.declared.calls.GrantFields.{GrantFields}
+use Rattle.rules.specs.Limits.{ceiling}
+use Rattle.rules.specs.Lists.{all}
+use Rattle.rules.specs.Frame.{upToCeiling}
+use Rattle.rules.specs.Effects.{balance, credit, debit}
+use Rattle.rules.proofs.Facts.{Within}
+use Rattle.desk.specs.Kept.{withLists}
+use lib.ListN.{set}
+
+-- the desk with another count of records
+abbrev pub withRecords : Desk → ℕ → Desk
+withRecords d n =
+    record {
+      balances = d .balances;
+      holders = d .holders;
+      lifetime = d .lifetime;
+      settled = d .settled;
+      last = d .last;
+      next = d .next;
+      unclaimed = d .unclaimed;
+      payments = d .payments;
+      inflight = d .inflight;
+      records = n;
+    }
+
+unfoldable pub transferredDesk : Desk → TransferFields → Desk
+transferredDesk d t =
+    withRecords
+    (withLists d (credit (debit (d .balances) (t .from) (t .asset) (t .amount)) (t .to) (t .asset) (t .amount)) (d .holders) (d .lifetime) (d .settled))
+    (d .records + 1)
+
+unfoldable pub grantedDesk : Desk → GrantFields → Desk
+grantedDesk d g = withRecords (withLists d (d .balances) (set (d .holders) (g .domain - 1) (g .to)) (d .lifetime) (d .settled)) (d .records + 1)
+
+-- what makes a transfer safe to do: it was not refused
+pub record CanTransfer (d : Desk) (t : TransferFields) : Type 0 where
+  pub from : Within 1 16 (t .from)
+  pub to : Within 1 16 (t .to)
+  pub asset : Within 1 8 (t .asset)
+  pub amount : t .amount ≤ ceiling
+  pub enough : t .amount ≤ balance (d .balances) (t .from) (t .asset)
+  pub balances : all upToCeiling (d .balances) ≡ true
+  pub records : d .records < 1024

@@ -1,0 +1,147 @@
+// The subaccount ledger: transfer, grant and sign. Each is lent all three tables, tests the whole
+// frame, and says in one equation what it answers and what it leaves of the desk and every row.
+use desk::answers::is_done;
+use desk::answers::refuse;
+use desk::fields::balance_of;
+use desk::fields::is_amount;
+use desk::fields::is_asset;
+use desk::fields::is_domain;
+use desk::fields::is_member;
+use desk::fields::of_eight;
+use desk::frame::in_frame;
+use desk::keep::with_balance;
+use desk::keep::with_holder;
+use rules::answers::Answer;
+use rules::answers::Answered;
+use rules::answers::Refusal;
+use rules::calls::GrantFields;
+use rules::calls::SignFields;
+use rules::calls::TransferFields;
+use rules::desk::Desk;
+use tables::put_row;
+ghost use mathlib.Core.Path.{_≡_};
+ghost use Prim.Native.Nat.{_≤_, _+_};
+ghost use Rattle.rules.specs.declared.calls.Call.{Call};
+ghost use Rattle.ledger.specs.After.{CanTransfer, CanGrant, transferredDesk, grantedDesk};
+ghost use Rattle.rules.specs.Replies.{told, plain};
+ghost use Rattle.rules.specs.Answer.{answer, replyNumber, bookOf, outcomeOf};
+
+// Transfer (from, to, asset, amount).
+pub fn transfer(
+    d: Desk,
+    inbox: &[u64],
+    outbox: &[u64],
+    history: &mut [u64],
+    t: TransferFields,
+) -> Answered
+    ensures { λ r. ⌜ outcomeOf r (now (inbox .entry)) (now (outbox .entry)) (now (history .exit)) ≡ answer (bookOf d (now (inbox .entry)) (now (outbox .entry)) (now (history .entry))) (Call.Transfer t) ⌝ }
+{
+    let reply = transfer_reply(d, inbox, outbox, history, t);
+    if !is_done(reply) {
+        return Answered {
+            answer: reply,
+            desk: d,
+        };
+    }
+    let at = d.records * 5;
+    let row = [2, t.asset, t.amount, t.from, t.to];
+    put_row(history, at, &row);
+    let desk = transferred(d, t);
+    Answered {
+        answer: reply,
+        desk,
+    }
+}
+
+// The transfer's table of refusals, the largest number first.
+fn transfer_reply(
+    d: Desk,
+    inbox: &[u64],
+    outbox: &[u64],
+    history: &[u64],
+    t: TransferFields,
+) -> Answer
+    ensures { λ r. ⌜ told r ≡ plain (replyNumber (bookOf d (now (inbox .entry)) (now (outbox .entry)) (now (history .entry))) (Call.Transfer t)) ⌝ }
+{
+    let r = refuse(1024 <= d.records, Refusal::HistoryFull, Answer::Done);
+    let r = refuse(
+        balance_of(&d.balances, t.from, t.asset) < t.amount,
+        Refusal::Short,
+        r,
+    );
+    let r = refuse(t.from == t.to, Refusal::SameMember, r);
+    let r = refuse(!is_amount(t.amount), Refusal::BadAmount, r);
+    let r = refuse(!is_asset(t.asset), Refusal::BadAsset, r);
+    let r = refuse(!is_member(t.from) | !is_member(t.to), Refusal::BadMember, r);
+    refuse(!in_frame(d, inbox, outbox, history), Refusal::BadBook, r)
+}
+
+// The sender's balance falls, the receiver's grows, and there is one record more.
+fn transferred(d: Desk, t: TransferFields) -> Desk
+    requires { ⌜ CanTransfer d t ⌝ }
+    ensures { λ r. ⌜ r ≡ transferredDesk d t ⌝ }
+{
+    let less = balance_of(&d.balances, t.from, t.asset) - t.amount;
+    let sent = with_balance(d, t.from, t.asset, less);
+    let more = balance_of(&sent.balances, t.to, t.asset) + t.amount;
+    let mut next = with_balance(sent, t.to, t.asset, more);
+    next.records = d.records + 1;
+    next
+}
+
+// Grant (from, to, domain): the domain passes to another member.
+pub fn grant(d: Desk, inbox: &[u64], outbox: &[u64], history: &mut [u64], g: GrantFields) -> Answered
+    ensures { λ r. ⌜ outcomeOf r (now (inbox .entry)) (now (outbox .entry)) (now (history .exit)) ≡ answer (bookOf d (now (inbox .entry)) (now (outbox .entry)) (now (history .entry))) (Call.Grant g) ⌝ }
+{
+    let reply = grant_reply(d, inbox, outbox, history, g);
+    if !is_done(reply) {
+        return Answered {
+            answer: reply,
+            desk: d,
+        };
+    }
+    let at = d.records * 5;
+    let row = [4, g.domain, 1, g.from, g.to];
+    put_row(history, at, &row);
+    let desk = granted(d, g);
+    Answered {
+        answer: reply,
+        desk,
+    }
+}
+
+// The grant's table of refusals, the largest number first.
+fn grant_reply(d: Desk, inbox: &[u64], outbox: &[u64], history: &[u64], g: GrantFields) -> Answer
+    ensures { λ r. ⌜ told r ≡ plain (replyNumber (bookOf d (now (inbox .entry)) (now (outbox .entry)) (now (history .entry))) (Call.Grant g)) ⌝ }
+{
+    let r = refuse(1024 <= d.records, Refusal::HistoryFull, Answer::Done);
+    let r = refuse(of_eight(&d.holders, g.domain) != g.from, Refusal::NotHolder, r);
+    let r = refuse(g.from == g.to, Refusal::SameMember, r);
+    let r = refuse(!is_domain(g.domain), Refusal::BadDomain, r);
+    let r = refuse(!is_member(g.from) | !is_member(g.to), Refusal::BadMember, r);
+    refuse(!in_frame(d, inbox, outbox, history), Refusal::BadBook, r)
+}
+
+// The domain has another holder, and there is one record more.
+fn granted(d: Desk, g: GrantFields) -> Desk
+    requires { ⌜ CanGrant d g ⌝ }
+    ensures { λ r. ⌜ r ≡ grantedDesk d g ⌝ }
+{
+    let mut next = with_holder(d, g.domain, g.to);
+    next.records = d.records + 1;
+    next
+}
+
+// Sign (member, domain): allowed exactly if the member holds the domain. Changes nothing.
+pub fn sign(d: Desk, inbox: &[u64], outbox: &[u64], history: &[u64], s: SignFields) -> Answered
+    ensures { λ r. ⌜ outcomeOf r (now (inbox .entry)) (now (outbox .entry)) (now (history .entry)) ≡ answer (bookOf d (now (inbox .entry)) (now (outbox .entry)) (now (history .entry))) (Call.Sign s) ⌝ }
+{
+    let r = refuse(of_eight(&d.holders, s.domain) != s.member, Refusal::NotHolder, Answer::Done);
+    let r = refuse(!is_domain(s.domain), Refusal::BadDomain, r);
+    let r = refuse(!is_member(s.member), Refusal::BadMember, r);
+    let r = refuse(!in_frame(d, inbox, outbox, history), Refusal::BadBook, r);
+    Answered {
+        answer: r,
+        desk: d,
+    }
+}

@@ -1,0 +1,13 @@
+pub mod Compute
+pub mod Cases
+pub mod Session
+pub mod Laying
+pub mod Shapes
+pub mod Readings
+pub mod FrameCases
+pub mod Digits
+pub mod ReadBack
+pub mod Facts
+pub mod Tests
+pub mod Accepts
+pub mod Told

@@ -1,0 +1,135 @@
+-- Reading a line that the writer wrote gives the call back, for every call whose fields fit.
+use Prim.Native.Nat.{ℕ, _*_, _≤_}
+use mathlib.Core.Path.{_≡_, refl, sym, ap, _∙_}
+use mathlib.Core.Bool.{Bool, true, false, not, _&&_, and-eq-true-iff}
+use mathlib.Core.List.{List, [], _∷_, _++_, map, append-nil, append-assoc}
+use native.Mathlib.Omega.{arith}
+use lib.Dec.{leb, eqb}
+use lib.ListN.{length, length-append}
+use borrow.Author.Tests.{leb-true, le-leb, ne-eqb, eqb-true, eqb-false, not-true}
+use Rattle.rules.specs.Types.{Call, Line}
+use Rattle.rules.specs.Limits.{highestField}
+use Rattle.rules.specs.Lists.{all, same, indexOf, joined, bytes}
+use Rattle.rules.specs.Lines.{tab, fieldsFrom, fields, fieldEnd, firstField, afterField, isDigit, Numbers, andRead, numbers, depositForm, claimForm, transferForm, withdrawForm, sendForm, settleForm, grantForm, signForm, traceForm, forms, formed, formedOf, readFields, readLine, decimal, tabbed, formOf, numbersOf, writeLine}
+use Rattle.rules.proofs.Digits.{all-imply, decimal-spells, number-decimal}
+
+-- no byte of the piece is a tab
+abbrev pub untabbed : List ℕ → Bool
+untabbed f = all (λ b. not (eqb b tab)) f
+
+-- every number is one that a field can hold
+abbrev pub fitting : List ℕ → Bool
+fitting ns = all (λ n. leb n highestField) ns
+
+-- ---- fields
+-- a piece without a tab belongs to the field that was begun
+fields-before : (before f r : List ℕ) → untabbed f ≡ true → fieldsFrom before (f ++ r) ≡ fieldsFrom (before ++ f) r
+unfolding all fieldsFrom
+fields-before before [] r h = rw append-nil
+fields-before before (b ∷ f) r h =
+    let (a, t) = and-eq-true-iff (not (eqb b tab)) (untabbed f) .0 h in
+    rw (not-true (eqb b tab) a, fields-before (before ++ (b ∷ [])) f r t, append-assoc)
+
+-- a piece without a tab, and then a tab: the piece is the first field
+pub fields-piece : (f rest : List ℕ) → untabbed f ≡ true → fields (f ++ (tab ∷ rest)) ≡ f ∷ fields rest
+unfolding fields fieldsFrom
+fields-piece f rest h = fields-before [] f (tab ∷ rest) h
+
+-- a piece without a tab is one field
+pub fields-last : (f : List ℕ) → untabbed f ≡ true → fields f ≡ f ∷ []
+unfolding fields fieldsFrom
+fields-last f h = rw append-nil at (fields-before [] f [] h)
+
+-- no digit is a tab
+decimal-untabbed : (n : ℕ) → n ≤ highestField → untabbed (decimal n) ≡ true
+decimal-untabbed n h = all-imply isDigit (λ b. not (eqb b tab)) no-tab (decimal n) (decimal-spells n h .digits)
+  where
+    no-tab : (b : ℕ) → isDigit b ≡ true → not (eqb b tab) ≡ true
+    no-tab b d =
+        let low : 48 ≤ b = leb-true 48 b (and-eq-true-iff (leb 48 b) (leb b 57) .0 d .0) in
+        rw (ne-eqb b tab (λ e. omega arith))
+
+-- ---- numbers
+-- of numbers that fit the first fits, and so do the others
+first-fits : (n : ℕ) (ns : List ℕ) → fitting (n ∷ ns) ≡ true → (n ≤ highestField) × (fitting ns ≡ true)
+unfolding all
+first-fits n ns h =
+    let (a, t) = and-eq-true-iff (leb n highestField) (fitting ns) .0 h in
+    (leb-true n highestField a, t)
+
+-- a word and its numbers, each after a tab, are parted again
+pub fields-tabbed : (w ns : List ℕ) → untabbed w ≡ true → fitting ns ≡ true → fields (w ++ tabbed ns) ≡ w ∷ map decimal ns
+unfolding tabbed joined
+fields-tabbed w [] u h = rw append-nil (fields-last w u)
+fields-tabbed w (n ∷ ns) u h =
+    let (a, t) = first-fits n ns h in
+    fields-piece w (decimal n ++ tabbed ns) u ∙ ap (λ (fs : List (List ℕ)). w ∷ fs) (fields-tabbed (decimal n) ns (decimal-untabbed n a) t)
+
+-- the numbers' fields are read as the numbers
+pub numbers-decimal : (ns : List ℕ) → fitting ns ≡ true → numbers (map decimal ns) ≡ Numbers.allRead ns
+unfolding numbers andRead
+numbers-decimal [] h = refl
+numbers-decimal (n ∷ ns) h =
+    let (a, t) = first-fits n ns h in
+    rw (number-decimal n a, numbers-decimal ns t)
+
+-- each number takes at most 21 bytes, with its tab
+pub length-tabbed : (ns : List ℕ) → fitting ns ≡ true → length (tabbed ns) ≤ 21 * length ns
+unfolding tabbed joined
+length-tabbed [] h = omega arith
+length-tabbed (n ∷ ns) h =
+    let (a, t) = first-fits n ns h in
+    rw length-append (omega (arith, decimal-spells n a .short, length-tabbed ns t))
+
+-- ---- a line
+-- a word of at most 8 bytes without a tab and at most 4 numbers: what the writer can write
+abbrev pub writable : List ℕ → List ℕ → Bool
+writable w ns = untabbed w && (leb (length w) 8 && leb (length ns) 4)
+
+-- such a line, read, is the form of its word and its numbers
+pub read-written : (w ns : List ℕ) → writable w ns ≡ true → fitting ns ≡ true → readLine (w ++ tabbed ns) ≡ formed forms w ns
+unfolding readLine readFields formedOf
+read-written w ns h f =
+    let (u, s) = and-eq-true-iff (untabbed w) (leb (length w) 8 && leb (length ns) 4) .0 h in
+    let (a, b) = and-eq-true-iff (leb (length w) 8) (leb (length ns) 4) .0 s in
+    let short : length (w ++ tabbed ns) ≤ 120 = rw length-append (omega (arith, leb-true (length w) 8 a, leb-true (length ns) 4 b, length-tabbed ns f)) in
+    rw (le-leb (length (w ++ tabbed ns)) 120 short, fields-tabbed w ns u f, numbers-decimal ns f)
+
+-- the nine calls: each is the form of its own word and numbers
+pub read-back : (c : Call) → all (λ n. leb n highestField) (numbersOf c) ≡ true → readLine (writeLine c) ≡ Line.Reads c
+unfolding all bytes forms formed same formOf numbersOf writeLine depositForm claimForm transferForm withdrawForm sendForm settleForm grantForm signForm traceForm
+read-back (Call.Deposit d) h = read-written (bytes "deposit") (numbersOf (Call.Deposit d)) refl h
+read-back (Call.Claim c) h = read-written (bytes "claim") (numbersOf (Call.Claim c)) refl h
+read-back (Call.Transfer t) h = read-written (bytes "transfer") (numbersOf (Call.Transfer t)) refl h
+read-back (Call.Withdraw w) h = read-written (bytes "withdraw") (numbersOf (Call.Withdraw w)) refl h
+read-back Call.Send h = read-written (bytes "send") (numbersOf Call.Send) refl h
+read-back (Call.Settle n) h = read-written (bytes "settle") (numbersOf (Call.Settle n)) refl h
+read-back (Call.Grant g) h = read-written (bytes "grant") (numbersOf (Call.Grant g)) refl h
+read-back (Call.Sign g) h = read-written (bytes "sign") (numbersOf (Call.Sign g)) refl h
+read-back (Call.Trace n) h = read-written (bytes "trace") (numbersOf (Call.Trace n)) refl h
+
+-- ---- one field at a time, as the field reader takes them
+-- the fields in what a field reader hands back: none where the line ended, and else those after the tab
+unfoldable pub fieldsAfter : List ℕ → List (List ℕ)
+fieldsAfter [] = []
+fieldsAfter (t ∷ rest) = fields rest
+
+fields-from : (before s : List ℕ) → fieldsFrom before s ≡ (before ++ firstField s) ∷ fieldsAfter (afterField s)
+unfolding fieldsFrom fieldEnd indexOf fieldsAfter fields
+fields-from before [] = rw append-nil
+fields-from before (b ∷ s) = go (eqb tab b) refl (fields-from (before ++ (b ∷ [])) s)
+  where
+    go : (t : Bool) → eqb tab b ≡ t
+        → fieldsFrom (before ++ (b ∷ [])) s ≡ (before ++ (b ∷ []) ++ firstField s) ∷ fieldsAfter (afterField s)
+        → fieldsFrom before (b ∷ s) ≡ (before ++ firstField (b ∷ s)) ∷ fieldsAfter (afterField (b ∷ s))
+    go true e ih =
+        let q : b ≡ tab = sym (eqb-true tab b e) in
+        rw (q, append-nil)
+    go false e ih =
+        let q : eqb b tab ≡ false = ne-eqb b tab (λ p. eqb-false tab b e (sym p)) in
+        rw (e, q, ih, append-assoc)
+
+-- the first field, and then the fields of the part that is handed back
+pub fields-first : (s : List ℕ) → fields s ≡ firstField s ∷ fieldsAfter (afterField s)
+unfolding fields
+fields-first s = fields-from [] s

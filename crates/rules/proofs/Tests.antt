@@ -1,0 +1,95 @@
+-- Tests read as facts, and lists of tests.
+use Prim.Native.Nat.{ℕ, zero, suc, _≤_, _<_, min}
+use mathlib.Core.Path.{_≡_, refl, sym, _∙_}
+use mathlib.Core.Bool.{Bool, true, false, not, _&&_, _||_, cond, and-eq-true-iff}
+use mathlib.Core.List.{List, [], _∷_, _++_}
+use native.Mathlib.Omega.{arith}
+use lib.Dec.{leb, ltb, eqb}
+use lib.ListN.{length, getD, set}
+use borrow.Author.Tests.{leb-true, le-leb, leb-false, ltb-false, eqb-true}
+use Rattle.rules.specs.Limits.{within}
+use Rattle.rules.specs.Lists.{all, ands}
+use Rattle.rules.specs.Replies.{smaller, smallest}
+use Rattle.rules.proofs.Facts.{Within}
+
+-- ---- one test
+-- both of two tests hold
+pub both : (a b : Bool) → a && b ≡ true → (a ≡ true) × (b ≡ true)
+both a b h = and-eq-true-iff a b .0 h
+
+pub both-of : (a b : Bool) → a ≡ true → b ≡ true → a && b ≡ true
+both-of a b p q = rw (p, q)
+
+-- a refusal that does not apply: what it asks the opposite of holds
+pub twice-not : (t : Bool) → not (not t) ≡ true → t ≡ true
+twice-not true h = refl
+twice-not false h = h
+
+pub not-holds : (t : Bool) → not t ≡ true → t ≡ false
+not-holds true h = sym h
+not-holds false h = refl
+
+-- neither of two tests holds
+pub neither : (a b : Bool) → not (a || b) ≡ true → (not a ≡ true) × (not b ≡ true)
+neither true b h = (h, absurd (mathlib.Core.Bool.false≢true h))
+neither false b h = (refl, h)
+
+pub within-true : (lo hi x : ℕ) → within lo hi x ≡ true → Within lo hi x
+within-true lo hi x h =
+    let (p, q) = both (leb lo x) (leb x hi) h in
+    record { low = leb-true lo x p; high = leb-true x hi q }
+
+pub true-within : (lo hi x : ℕ) → Within lo hi x → within lo hi x ≡ true
+true-within lo hi x h = rw (le-leb lo x (h .low), le-leb x hi (h .high))
+
+-- ---- every element of a list passes
+-- the element at any place, if what stands past the end passes too
+pub all-at : {A : Type 0} (p : A → Bool) (xs : List A) (k : ℕ) (d : A) → p d ≡ true → all p xs ≡ true → p (getD xs k d) ≡ true
+unfolding all
+all-at p [] k d e h = e
+all-at p (x ∷ xs) zero d e h = both (p x) (all p xs) h .0
+all-at p (x ∷ xs) (suc k) d e h = all-at p xs k d e (both (p x) (all p xs) h .1)
+
+-- a list passes if the element at every place does
+pub all-of : {A : Type 0} (p : A → Bool) (d : A) (xs : List A) → ((i : ℕ) → i < length xs → p (getD xs i d) ≡ true) → all p xs ≡ true
+unfolding all
+all-of p d [] h = refl
+all-of p d (x ∷ xs) h = rw (h zero (omega arith)) (all-of p d xs (λ i l. h (suc i) (omega arith)))
+
+-- one element changed to another that passes
+pub all-set : {A : Type 0} (p : A → Bool) (xs : List A) (i : ℕ) (x : A) → all p xs ≡ true → p x ≡ true → all p (set xs i x) ≡ true
+unfolding all
+all-set p [] i x h e = refl
+all-set p (y ∷ xs) zero x h e = rw e (both (p y) (all p xs) h .1)
+all-set p (y ∷ xs) (suc i) x h e =
+    let (a, t) = both (p y) (all p xs) h in
+    rw a (all-set p xs i x t e)
+
+-- ---- a table of refusals
+-- its numbers are refusals' numbers, from 1 on; no test of it holds
+abbrev pub numbered : List (ℕ × Bool) → Bool
+numbered rs = all (λ r. leb 1 (r .0)) rs
+
+abbrev pub noneApplies : List (ℕ × Bool) → Bool
+noneApplies rs = all (λ r. not (r .1)) rs
+
+smaller-positive : (n m : ℕ) → 1 ≤ n → smaller n m ≡ 0 → ⊥
+smaller-positive n zero h e = omega arith
+smaller-positive n (suc m) h e = omega arith
+
+-- the smallest number is 0 exactly if no test holds
+pub none-applies : (rs : List (ℕ × Bool)) → numbered rs ≡ true → smallest rs ≡ 0 → noneApplies rs ≡ true
+unfolding all smallest
+none-applies [] p h = refl
+none-applies (r ∷ rs) p h = go (r .1) refl h (none-applies rs (both (leb 1 (r .0)) (numbered rs) p .1))
+  where
+    go : (t : Bool) → r .1 ≡ t → cond t (smaller (r .0) (smallest rs)) (smallest rs) ≡ 0 → (smallest rs ≡ 0 → noneApplies rs ≡ true) → noneApplies (r ∷ rs) ≡ true
+    go true e z ih = absurd (smaller-positive (r .0) (smallest rs) (leb-true 1 (r .0) (both (leb 1 (r .0)) (numbered rs) p .0)) z)
+    go false e z ih = rw e (ih z)
+
+pub nothing-smallest : (rs : List (ℕ × Bool)) → noneApplies rs ≡ true → smallest rs ≡ 0
+unfolding all smallest
+nothing-smallest [] h = refl
+nothing-smallest (r ∷ rs) h =
+    let (a, t) = both (not (r .1)) (noneApplies rs) h in
+    rw (not-holds (r .1) a) (nothing-smallest rs t)

@@ -1,0 +1,22 @@
+-- The rules of document 01 as definitions, each of which uses only those above it.
+pub mod Types
+pub mod Lists
+pub mod Limits
+pub mod Tables
+pub mod State
+pub mod Replies
+pub mod Refusals
+pub mod Effects
+pub mod Frame
+pub mod History
+pub mod Lots
+pub mod Answer
+pub mod Runs
+pub mod Sheet
+pub mod Views
+pub mod Lines
+pub mod Transcript
+pub mod Cases
+pub mod Session
+pub mod Readings
+pub mod FrameCases
