@@ -2,7 +2,7 @@
 use Prim.Native.Nat.{ℕ, zero, suc, _+_, _-_, _*_, _≤_, _<_}
 use mathlib.Core.Path.{_≡_, refl, sym, ap, _∙_}
 use mathlib.Core.Logic.{_≢_}
-use mathlib.Core.Bool.{Bool, true, false}
+use mathlib.Core.Bool.{Bool, true, false, _&&_, cond}
 use mathlib.Core.List.{List, [], _∷_, _++_, append-nil}
 use native.Mathlib.Omega.{arith}
 use lib.Dec.{leb, eqb}
@@ -14,12 +14,12 @@ use Rattle.rules.specs.declared.desk.Desk.{Desk}
 use Rattle.rules.specs.declared.calls.Call.{Call}
 use Rattle.rules.specs.declared.answers.Answer.{Answer}
 use Rattle.rules.specs.declared.answers.Answered.{Answered}
-use Rattle.rules.specs.Limits.{ceiling, isMember, isAsset}
+use Rattle.rules.specs.Limits.{ceiling, within, isMember, isAsset}
 use Rattle.rules.specs.Lists.{all, ands}
 use Rattle.rules.specs.Tables.{Edit, rowsOf, lay, edited, splice, editedTable, HasRoom, depositShape, paymentShape, recordShape}
 use Rattle.rules.specs.State.{State, Outside, Book, inboxOf, outboxOf, historyOf, payments, view, deskOf, laid}
 use Rattle.rules.specs.Replies.{Reply, told, plain, if-done}
-use Rattle.rules.specs.Effects.{effect}
+use Rattle.rules.specs.Effects.{effect, balance}
 use Rattle.rules.specs.Frame.{upToCeiling, inFrame}
 use Rattle.rules.specs.Answer.{Outcome, answer, replyNumber, replyWith, doneAnswer, piecesOf, bookOf, outcomeOf}
 use Rattle.rules.proofs.Laying.{length-rows, lay-edited}
@@ -28,7 +28,7 @@ use Rattle.rules.proofs.Tests.{both, all-at}
 use Rattle.rules.proofs.Facts.{Accepted}
 use Rattle.rules.proofs.Accepts.{accepted-frame, not-done}
 use Rattle.tables.specs.Rows.{putAt}
-use Rattle.desk.specs.Parts.{isDone}
+use Rattle.desk.specs.Parts.{isDone, ofEight}
 use Rattle.desk.proofs.Chains.{done-number, refused-number}
 
 -- ---- the two ends of a call
@@ -140,3 +140,21 @@ module _ (b : Book) (f : Framed b) where
 pub lays-plain : (b : Book) (c : Call) → Accepted b c → (a : Answer) → told a ≡ plain (replyNumber b c) → told (doneAnswer (view b) c) ≡ plain 0 → piecesOf (view b) c ≡ []
     → (d : Desk) (i o h : List ℕ) → bookOf d i o h ≡ laid (effect c (view b)) b → outcomeOf (record { answer = a; desk = d }) i o h ≡ answer b c
 lays-plain b c y a p q r d i o h l = lays b c y a d i o h (p ∙ ap plain (y .done) ∙ sym q) r l
+
+-- ---- no sum can wrap
+-- no balance is above the ceiling where none of the list is
+pub balance-low : (bs : List ℕ) (m a : ℕ) → all upToCeiling bs ≡ true → balance bs m a ≤ ceiling
+unfolding balance
+balance-low bs m a h = go (isMember m && isAsset a)
+  where
+    go : (p : Bool) → cond p (getD bs ((m - 1) * 8 + (a - 1)) 0) 0 ≤ ceiling
+    go true = leb-true (getD bs ((m - 1) * 8 + (a - 1)) 0) ceiling (all-at upToCeiling bs ((m - 1) * 8 + (a - 1)) 0 refl h)
+    go false = omega arith
+
+-- nor is one of eight
+pub eight-low : (xs : List ℕ) (i : ℕ) → all upToCeiling xs ≡ true → ofEight xs i ≤ ceiling
+eight-low xs i h = go (within 1 8 i)
+  where
+    go : (p : Bool) → cond p (getD xs (i - 1) 0) 0 ≤ ceiling
+    go true = leb-true (getD xs (i - 1) 0) ceiling (all-at upToCeiling xs (i - 1) 0 refl h)
+    go false = omega arith

@@ -86,3 +86,8 @@ refused-number Answer.Done n e d = absurd (mathlib.Core.Bool.true≢false d)
 refused-number (Answer.Sent p) n e d = absurd (mathlib.Core.Bool.true≢false d)
 refused-number (Answer.Traced k) n e d = absurd (mathlib.Core.Bool.true≢false d)
 refused-number (Answer.Refused r) n e d = λ z. omega (arith, refusal-number r, ap (λ (r : Reply). r .number) e)
+
+-- out of frame comes first: what the other tests say of such a book is no matter
+pub chain-frame : (f : Bool) (es gs : List Entry) → (f ≡ true → es ≡ gs) → chain ((Refusal.BadBook, not f) ∷ es) ≡ chain ((Refusal.BadBook, not f) ∷ gs)
+chain-frame true es gs h = ap chain (h refl)
+chain-frame false es gs h = refl

@@ -38,3 +38,19 @@ lifetimeKept d a x = withLists d (d .balances) (d .holders) (eightSet (d .lifeti
 
 unfoldable pub settledKept : Desk → ℕ → ℕ → Desk
 settledKept d a x = withLists d (d .balances) (d .holders) (d .lifetime) (eightSet (d .settled) a x)
+
+-- the desk with these counts: unclaimed deposits, payments, those in flight, records
+abbrev pub withCounts : Desk → ℕ → ℕ → ℕ → ℕ → Desk
+withCounts d unclaimed payments inflight records =
+    record {
+      balances = d .balances;
+      holders = d .holders;
+      lifetime = d .lifetime;
+      settled = d .settled;
+      last = d .last;
+      next = d .next;
+      unclaimed = unclaimed;
+      payments = payments;
+      inflight = inflight;
+      records = records;
+    }

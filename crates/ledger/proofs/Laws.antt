@@ -3,6 +3,7 @@ use Prim.Native.Nat.{ℕ, _+_, _-_, _*_, _≤_, _<_}
 use mathlib.Core.Path.{_≡_, refl, sym, ap, _∙_}
 use mathlib.Core.Bool.{Bool, true, false, not, _&&_, _||_, cond}
 use mathlib.Core.List.{List, [], _∷_, _++_}
+use native.Mathlib.Nat.{add-zero}
 use native.Mathlib.Omega.{arith}
 use lib.Dec.{leb, ltb, eqb}
 use lib.ListN.{length, getD, set}
@@ -13,6 +14,7 @@ use Rattle.rules.specs.declared.calls.TransferFields.{TransferFields}
 use Rattle.rules.specs.declared.calls.GrantFields.{GrantFields}
 use Rattle.rules.specs.declared.calls.SignFields.{SignFields}
 use Rattle.rules.specs.declared.answers.Refusal.{Refusal}
+use Rattle.rules.specs.declared.answers.Answer.{Answer}
 use Rattle.rules.specs.Limits.{ceiling, isMember, isAsset, isDomain, isAmount}
 use Rattle.rules.specs.Lists.{all}
 use Rattle.rules.specs.Tables.{edited, recordShape}
@@ -21,16 +23,17 @@ use Rattle.rules.specs.Replies.{numberOf, told, plain}
 use Rattle.rules.specs.Refusals.{refusals, full}
 use Rattle.rules.specs.Effects.{balance, credit, debit, holder, effect, balancesAfter, holdersAfter, inboxEdit, outsideAfter, recordsOf}
 use Rattle.rules.specs.Frame.{upToCeiling, inFrame}
-use Rattle.rules.specs.Answer.{frameTest, replyNumber, bookOf}
+use Rattle.rules.specs.Answer.{frameTest, replyNumber, answer, bookOf, outcomeOf, doneAnswer, piecesOf}
 use Rattle.rules.proofs.Laying.{length-rows}
-use Rattle.rules.proofs.Facts.{Within, Accepted, TransferFit}
+use Rattle.rules.proofs.Facts.{Within, Accepted, TransferFit, GrantFit}
 use Rattle.rules.proofs.Tests.{both-of, true-within, all-at, all-set}
 use Rattle.rules.proofs.Accepts.{fit, accepted-frame}
 use Rattle.tables.specs.Rows.{putAt}
-use Rattle.desk.specs.Kept.{balanceKept}
+use Rattle.desk.specs.Kept.{balanceKept, holderKept}
+use Rattle.desk.specs.Parts.{ofEight, isDone}
 use Rattle.desk.proofs.Chains.{Entry, chain, rising, notBelow, chain-told}
-use Rattle.desk.proofs.Books.{Framed, framed, inbox-kept, outbox-kept, record-added, history-kept, inbox-count, outbox-count, flight-count, history-count}
-use Rattle.ledger.specs.After.{withRecords, transferredDesk, grantedDesk, CanTransfer}
+use Rattle.desk.proofs.Books.{Framed, framed, balance-low, refuses, accepts, lays-plain, inbox-kept, outbox-kept, record-added, history-kept, inbox-count, outbox-count, flight-count, history-count}
+use Rattle.ledger.specs.After.{withRecords, transferredDesk, grantedDesk, CanTransfer, CanGrant}
 
 -- ---- the tables of refusals
 abbrev pub transferEntries : Book → TransferFields → List Entry
@@ -81,15 +84,6 @@ transfer-laid b t f h =
     )
 
 -- ---- the steps of a transfer
--- no balance is above the ceiling where none of the list is
-pub balance-low : (bs : List ℕ) (m a : ℕ) → all upToCeiling bs ≡ true → balance bs m a ≤ ceiling
-unfolding balance
-balance-low bs m a h = go (isMember m && isAsset a)
-  where
-    go : (p : Bool) → cond p (getD bs ((m - 1) * 8 + (a - 1)) 0) 0 ≤ ceiling
-    go true = leb-true (getD bs ((m - 1) * 8 + (a - 1)) 0) ceiling (all-at upToCeiling bs ((m - 1) * 8 + (a - 1)) 0 refl h)
-    go false = omega arith
-
 -- the sender's balance is lower, so none is above the ceiling after it
 pub sent-low : (d : Desk) (t : TransferFields) → CanTransfer d t → all upToCeiling (balanceKept d (t .from) (t .asset) (balance (d .balances) (t .from) (t .asset) - t .amount) .balances) ≡ true
 unfolding balanceKept
@@ -109,3 +103,74 @@ transferred-is d t c =
       both-of (isMember (t .from)) (isAsset (t .asset)) (true-within 1 16 (t .from) (c .from)) (true-within 1 8 (t .asset) (c .asset)),
       both-of (isMember (t .to)) (isAsset (t .asset)) (true-within 1 16 (t .to) (c .to)) (true-within 1 8 (t .asset) (c .asset)),
     )
+
+-- ---- grant
+abbrev pub grantEntries : Book → GrantFields → List Entry
+grantEntries b g =
+    (Refusal.BadBook, not (inFrame b))
+    ∷ (Refusal.BadMember, not (isMember (g .from)) || not (isMember (g .to)))
+    ∷ (Refusal.BadDomain, not (isDomain (g .domain)))
+    ∷ (Refusal.SameMember, eqb (g .from) (g .to))
+    ∷ (Refusal.NotHolder, not (eqb (ofEight (b .desk .holders) (g .domain)) (g .from)))
+    ∷ (Refusal.HistoryFull, leb 1024 (b .desk .records))
+    ∷ []
+
+pub grant-told : (b : Book) (g : GrantFields) → told (chain (grantEntries b g)) ≡ plain (replyNumber b (Call.Grant g))
+unfolding replyNumber frameTest refusals full holder view numberOf notBelow all
+grant-told b g = rw (length-rows recordShape (b .desk .records) (b .history)) (chain-told (grantEntries b g) refl)
+
+pub can-grant : (b : Book) (g : GrantFields) → Accepted b (Call.Grant g) → CanGrant (b .desk) g
+unfolding view
+can-grant b g a =
+    let q : GrantFit (view b) g = fit b (Call.Grant g) a in
+    let l : length (historyOf b) ≡ b .desk .records = length-rows recordShape (b .desk .records) (b .history) in
+    record { domain = q .domain; records = omega (arith, q .room) }
+
+pub granted-is : (d : Desk) (g : GrantFields) → CanGrant d g → withRecords (holderKept d (g .domain) (g .to)) (d .records + 1) ≡ grantedDesk d g
+unfolding holderKept grantedDesk
+granted-is d g c = rw (true-within 1 8 (g .domain) (c .domain))
+
+pub grant-laid : (b : Book) (g : GrantFields) → Framed b → b .desk .records < 1024
+    → bookOf (grantedDesk (b .desk) g) (b .inbox) (b .outbox) (putAt (b .desk .records * 5) (4 ∷ g .domain ∷ 1 ∷ g .from ∷ g .to ∷ []) (b .history))
+    ≡ laid (effect (Call.Grant g) (view b)) b
+unfolding laid deskOf effect balancesAfter holdersAfter inboxEdit edited outsideAfter recordsOf grantedDesk view
+grant-laid b g f h =
+    rw (
+      inbox-kept b f,
+      outbox-kept b f,
+      record-added b f (record { kind = 4; asset = g .domain; amount = 1; first = g .from; second = g .to }) h,
+      inbox-count b f,
+      outbox-count b f,
+      flight-count b f,
+      history-count b f (record { kind = 4; asset = g .domain; amount = 1; first = g .from; second = g .to } ∷ []),
+    )
+
+-- ---- sign
+abbrev pub signEntries : Book → SignFields → List Entry
+signEntries b s =
+    (Refusal.BadBook, not (inFrame b))
+    ∷ (Refusal.BadMember, not (isMember (s .member)))
+    ∷ (Refusal.BadDomain, not (isDomain (s .domain)))
+    ∷ (Refusal.NotHolder, not (eqb (ofEight (b .desk .holders) (s .domain)) (s .member)))
+    ∷ []
+
+pub sign-told : (b : Book) (s : SignFields) → told (chain (signEntries b s)) ≡ plain (replyNumber b (Call.Sign s))
+unfolding replyNumber frameTest refusals holder view numberOf notBelow all
+sign-told b s = chain-told (signEntries b s) refl
+
+-- "Changes nothing.": what a done one lays is what was there
+sign-laid : (b : Book) (s : SignFields) → Framed b → b ≡ laid (effect (Call.Sign s) (view b)) b
+unfolding laid deskOf effect balancesAfter holdersAfter inboxEdit edited outsideAfter recordsOf view
+sign-laid b s f =
+    rw (inbox-kept b f, outbox-kept b f, history-kept b f, inbox-count b f, outbox-count b f, flight-count b f, history-count b f [], add-zero)
+
+pub sign-answers : (b : Book) (s : SignFields) (a : Answer) → told a ≡ plain (replyNumber b (Call.Sign s))
+    → outcomeOf (record { answer = a; desk = b .desk }) (b .inbox) (b .outbox) (b .history) ≡ answer b (Call.Sign s)
+unfolding told doneAnswer piecesOf
+sign-answers b s a e = go (isDone a) refl
+  where
+    go : (p : Bool) → isDone a ≡ p → outcomeOf (record { answer = a; desk = b .desk }) (b .inbox) (b .outbox) (b .history) ≡ answer b (Call.Sign s)
+    go true d =
+        let y : Accepted b (Call.Sign s) = accepts b (Call.Sign s) a e d in
+        lays-plain b (Call.Sign s) y a e refl refl (b .desk) (b .inbox) (b .outbox) (b .history) (sign-laid b s (framed b (accepted-frame b (Call.Sign s) y)))
+    go false d = refuses b (Call.Sign s) a e d

@@ -11,24 +11,12 @@ use Rattle.rules.specs.Lists.{all}
 use Rattle.rules.specs.Frame.{upToCeiling}
 use Rattle.rules.specs.Effects.{balance, credit, debit}
 use Rattle.rules.proofs.Facts.{Within}
-use Rattle.desk.specs.Kept.{withLists}
+use Rattle.desk.specs.Kept.{withLists, withCounts}
 use lib.ListN.{set}
 
 -- the desk with another count of records
 abbrev pub withRecords : Desk → ℕ → Desk
-withRecords d n =
-    record {
-      balances = d .balances;
-      holders = d .holders;
-      lifetime = d .lifetime;
-      settled = d .settled;
-      last = d .last;
-      next = d .next;
-      unclaimed = d .unclaimed;
-      payments = d .payments;
-      inflight = d .inflight;
-      records = n;
-    }
+withRecords d n = withCounts d (d .unclaimed) (d .payments) (d .inflight) n
 
 unfoldable pub transferredDesk : Desk → TransferFields → Desk
 transferredDesk d t =
@@ -47,4 +35,8 @@ pub record CanTransfer (d : Desk) (t : TransferFields) : Type 0 where
   pub amount : t .amount ≤ ceiling
   pub enough : t .amount ≤ balance (d .balances) (t .from) (t .asset)
   pub balances : all upToCeiling (d .balances) ≡ true
+  pub records : d .records < 1024
+
+pub record CanGrant (d : Desk) (g : GrantFields) : Type 0 where
+  pub domain : Within 1 8 (g .domain)
   pub records : d .records < 1024

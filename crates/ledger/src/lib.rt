@@ -90,7 +90,13 @@ fn transferred(d: Desk, t: TransferFields) -> Desk
 }
 
 // Grant (from, to, domain): the domain passes to another member.
-pub fn grant(d: Desk, inbox: &[u64], outbox: &[u64], history: &mut [u64], g: GrantFields) -> Answered
+pub fn grant(
+    d: Desk,
+    inbox: &[u64],
+    outbox: &[u64],
+    history: &mut [u64],
+    g: GrantFields,
+) -> Answered
     ensures { λ r. ⌜ outcomeOf r (now (inbox .entry)) (now (outbox .entry)) (now (history .exit)) ≡ answer (bookOf d (now (inbox .entry)) (now (outbox .entry)) (now (history .entry))) (Call.Grant g) ⌝ }
 {
     let reply = grant_reply(d, inbox, outbox, history, g);
@@ -115,7 +121,11 @@ fn grant_reply(d: Desk, inbox: &[u64], outbox: &[u64], history: &[u64], g: Grant
     ensures { λ r. ⌜ told r ≡ plain (replyNumber (bookOf d (now (inbox .entry)) (now (outbox .entry)) (now (history .entry))) (Call.Grant g)) ⌝ }
 {
     let r = refuse(1024 <= d.records, Refusal::HistoryFull, Answer::Done);
-    let r = refuse(of_eight(&d.holders, g.domain) != g.from, Refusal::NotHolder, r);
+    let r = refuse(
+        of_eight(&d.holders, g.domain) != g.from,
+        Refusal::NotHolder,
+        r,
+    );
     let r = refuse(g.from == g.to, Refusal::SameMember, r);
     let r = refuse(!is_domain(g.domain), Refusal::BadDomain, r);
     let r = refuse(!is_member(g.from) | !is_member(g.to), Refusal::BadMember, r);
@@ -136,12 +146,13 @@ fn granted(d: Desk, g: GrantFields) -> Desk
 pub fn sign(d: Desk, inbox: &[u64], outbox: &[u64], history: &[u64], s: SignFields) -> Answered
     ensures { λ r. ⌜ outcomeOf r (now (inbox .entry)) (now (outbox .entry)) (now (history .entry)) ≡ answer (bookOf d (now (inbox .entry)) (now (outbox .entry)) (now (history .entry))) (Call.Sign s) ⌝ }
 {
-    let r = refuse(of_eight(&d.holders, s.domain) != s.member, Refusal::NotHolder, Answer::Done);
+    let r = refuse(
+        of_eight(&d.holders, s.domain) != s.member,
+        Refusal::NotHolder,
+        Answer::Done,
+    );
     let r = refuse(!is_domain(s.domain), Refusal::BadDomain, r);
     let r = refuse(!is_member(s.member), Refusal::BadMember, r);
     let r = refuse(!in_frame(d, inbox, outbox, history), Refusal::BadBook, r);
-    Answered {
-        answer: r,
-        desk: d,
-    }
+    Answered { answer: r, desk: d }
 }

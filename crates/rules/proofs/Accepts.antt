@@ -1,27 +1,26 @@
 -- What acceptance gives, and what a call leaves: shared by the proofs of the code and by the promises.
 use Prim.Native.Nat.{ℕ, zero, suc, _+_, _≤_, _<_}
-use mathlib.Core.Path.{_≡_, refl, sym, ap, _∙_}
+use mathlib.Core.Path.{_∙_, _≡_, refl, ap}
 use mathlib.Core.Logic.{_≢_}
-use mathlib.Core.Bool.{Bool, true, false, not, _&&_, _||_, cond}
-use mathlib.Core.List.{List, [], _∷_}
+use mathlib.Core.Bool.{true, false, not, _&&_, _||_}
+use mathlib.Core.List.{List, [], _∷_, _++_, append-assoc, append-nil}
 use native.Mathlib.Omega.{arith}
 use lib.Dec.{leb, ltb, eqb}
 use lib.ListN.{length, getD}
-use borrow.Author.Tests.{leb-true, leb-false, ltb-false, eqb-true, eqb-false}
-use Rattle.rules.specs.Types.{Nonce, Deposit, Payment, ClaimFields, TransferFields, WithdrawalFields, GrantFields, SignFields, Refusal, Call}
-use Rattle.rules.specs.Limits.{isMember, isAsset, isDomain, isAmount, isPayee, ceiling, highestNumber, inboxRows, outboxRows, historyRows}
+use borrow.Author.Tests.{leb-false, ltb-false, eqb-true, eqb-false}
+use Rattle.rules.specs.Types.{Nonce, Deposit, ClaimFields, TransferFields, WithdrawalFields, GrantFields, SignFields, Call, Payment}
+use Rattle.rules.specs.Limits.{ceiling, highestNumber, inboxRows, outboxRows, historyRows}
 use Rattle.rules.specs.Lists.{all, any}
-use Rattle.rules.specs.State.{State, Book, view, laid, historyOf, payments}
-use Rattle.rules.specs.Replies.{numberOf, smallest, if-done}
+use Rattle.rules.specs.State.{Book, view, laid, historyOf, payments}
+use Rattle.rules.specs.Replies.{Reply, numberOf, told, if-done}
 use Rattle.rules.specs.Refusals.{refusals, traceRefusals, full}
 use Rattle.rules.specs.Effects.{effect, balance, holder, matches, total, oldest}
 use Rattle.rules.specs.Frame.{inFrame}
 use Rattle.rules.specs.History.{withdrawals, historyInFrame}
 use Rattle.rules.specs.Answer.{frameTest, replyNumber, answer}
-use Rattle.rules.specs.Runs.{bookAfter}
 use Rattle.rules.proofs.Shapes.{view-laid}
 use Rattle.rules.proofs.Facts.{Accepted, Within, DepositFit, ClaimFit, TransferFit, WithdrawalFit, SendFit, SettleFit, GrantFit, SignFit, TraceFit, Fit}
-use Rattle.rules.proofs.Tests.{both, twice-not, not-holds, neither, within-true, all-at, numbered, noneApplies, none-applies}
+use Rattle.rules.proofs.Tests.{twice-not, not-holds, neither, within-true, all-at, numbered, none-applies}
 
 -- ---- what acceptance gives
 -- every number in a call's table, BadBook's too, is a refusal's
@@ -60,6 +59,7 @@ accepted-frame b (Call.Trace n) a = twice-not (inFrame b) (neither (not (inFrame
 field-in : (hi x : ℕ) → not (not (leb 1 x && leb x hi)) ≡ true → Within 1 hi x
 field-in hi x h = within-true 1 hi x (twice-not (leb 1 x && leb x hi) h)
 
+-- and so for two members at once
 fields-in : (hi x y : ℕ) → not (not (leb 1 x && leb x hi) || not (leb 1 y && leb y hi)) ≡ true → Within 1 hi x × Within 1 hi y
 fields-in hi x y h =
     let (p, q) = neither (not (leb 1 x && leb x hi)) (not (leb 1 y && leb y hi)) h in
@@ -70,6 +70,7 @@ has-room : {A : Type 0} (rows : ℕ) (used : List A) → not (full rows used) �
 unfolding full
 has-room rows used h = leb-false rows (length used) (not-holds (leb rows (length used)) h)
 
+-- a test "below" that does not hold; a test of equality that does not; one that does
 not-below : (x y : ℕ) → not (ltb x y) ≡ true → y ≤ x
 not-below x y h = ltb-false x y (not-holds (ltb x y) h)
 
@@ -79,6 +80,7 @@ differ x y h = eqb-false x y (not-holds (eqb x y) h)
 equal : (x y : ℕ) → not (not (eqb x y)) ≡ true → x ≡ y
 equal x y h = eqb-true x y (twice-not (eqb x y) h)
 
+-- each call's facts, its table's entries one by one
 deposit-fit : (b : Book) (d : Deposit) → Accepted b (Call.Deposit d) → DepositFit (view b) d
 unfolding refusals
 deposit-fit b d a =
@@ -202,6 +204,7 @@ pub not-done : {A : Type 0} (n : ℕ) (x y : A) → n ≢ 0 → if-done n x y �
 not-done zero x y h = absurd (h refl)
 not-done (suc n) x y h = refl
 
+-- a function of this or that
 if-done-of : {A B : Type 0} (f : A → B) (n : ℕ) (x y : A) → f (if-done n x y) ≡ if-done n (f x) (f y)
 if-done-of f zero x y = refl
 if-done-of f (suc n) x y = refl
@@ -211,7 +214,6 @@ pub state-after : (b : Book) (c : Call) → view (answer b c .book) ≡ if-done 
 unfolding answer
 state-after b c = rw (if-done-of view (replyNumber b c) (laid (effect c (view b)) b) b, view-laid (effect c (view b)) b)
 
--- the book after an accepted call
-pub book-accepted : (b : Book) (c : Call) → Accepted b c → bookAfter b c ≡ laid (effect c (view b)) b
-unfolding answer
-book-accepted b c a = rw (a .done)
+-- of an accepted call, its effect
+pub state-accepted : (b : Book) (c : Call) → Accepted b c → view (answer b c .book) ≡ effect c (view b)
+state-accepted b c a = state-after b c ∙ rw (a .done)

@@ -7,7 +7,7 @@ use lib.ListN.{length}
 use Rattle.rules.specs.Types.{Nonce, Deposit, ClaimFields, TransferFields, WithdrawalFields, GrantFields, SignFields, Call}
 use Rattle.rules.specs.Limits.{ceiling, inboxRows, outboxRows, historyRows, memberCount, assetCount, domainCount, highestNumber}
 use Rattle.rules.specs.Lists.{any}
-use Rattle.rules.specs.State.{State, Book, view, payments}
+use Rattle.rules.specs.State.{State, Book, payments}
 use Rattle.rules.specs.Effects.{balance, holder, matches, total, oldest}
 use Rattle.rules.specs.History.{withdrawals, historyInFrame}
 use Rattle.rules.specs.Answer.{replyNumber}

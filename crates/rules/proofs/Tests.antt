@@ -1,14 +1,14 @@
 -- Tests read as facts, and lists of tests.
-use Prim.Native.Nat.{ℕ, zero, suc, _≤_, _<_, min}
-use mathlib.Core.Path.{_≡_, refl, sym, _∙_}
-use mathlib.Core.Bool.{Bool, true, false, not, _&&_, _||_, cond, and-eq-true-iff}
-use mathlib.Core.List.{List, [], _∷_, _++_}
+use Prim.Native.Nat.{ℕ, zero, suc, _≤_, _<_}
+use mathlib.Core.Path.{_≡_, refl, sym}
+use mathlib.Core.Bool.{Bool, true, false, not, _&&_, _||_, cond, and-eq-true-iff, false≢true}
+use mathlib.Core.List.{List, [], _∷_}
 use native.Mathlib.Omega.{arith}
-use lib.Dec.{leb, ltb, eqb}
+use lib.Dec.{leb}
 use lib.ListN.{length, getD, set}
-use borrow.Author.Tests.{leb-true, le-leb, leb-false, ltb-false, eqb-true}
+use borrow.Author.Tests.{leb-true, le-leb}
 use Rattle.rules.specs.Limits.{within}
-use Rattle.rules.specs.Lists.{all, ands}
+use Rattle.rules.specs.Lists.{all}
 use Rattle.rules.specs.Replies.{smaller, smallest}
 use Rattle.rules.proofs.Facts.{Within}
 
@@ -17,6 +17,7 @@ use Rattle.rules.proofs.Facts.{Within}
 pub both : (a b : Bool) → a && b ≡ true → (a ≡ true) × (b ≡ true)
 both a b h = and-eq-true-iff a b .0 h
 
+-- and the other way round
 pub both-of : (a b : Bool) → a ≡ true → b ≡ true → a && b ≡ true
 both-of a b p q = rw (p, q)
 
@@ -25,15 +26,17 @@ pub twice-not : (t : Bool) → not (not t) ≡ true → t ≡ true
 twice-not true h = refl
 twice-not false h = h
 
+-- a test that does not hold is false
 pub not-holds : (t : Bool) → not t ≡ true → t ≡ false
 not-holds true h = sym h
 not-holds false h = refl
 
 -- neither of two tests holds
 pub neither : (a b : Bool) → not (a || b) ≡ true → (not a ≡ true) × (not b ≡ true)
-neither true b h = (h, absurd (mathlib.Core.Bool.false≢true h))
+neither true b h = (h, absurd (false≢true h))
 neither false b h = (refl, h)
 
+-- a field within its limits, from its test and back
 pub within-true : (lo hi x : ℕ) → within lo hi x ≡ true → Within lo hi x
 within-true lo hi x h =
     let (p, q) = both (leb lo x) (leb x hi) h in
@@ -66,13 +69,15 @@ all-set p (y ∷ xs) (suc i) x h e =
     rw a (all-set p xs i x t e)
 
 -- ---- a table of refusals
--- its numbers are refusals' numbers, from 1 on; no test of it holds
+-- its numbers are refusals' numbers, from 1 on
 abbrev pub numbered : List (ℕ × Bool) → Bool
 numbered rs = all (λ r. leb 1 (r .0)) rs
 
+-- no test of it holds
 abbrev pub noneApplies : List (ℕ × Bool) → Bool
 noneApplies rs = all (λ r. not (r .1)) rs
 
+-- the smaller of a refusal and another number is no 0
 smaller-positive : (n m : ℕ) → 1 ≤ n → smaller n m ≡ 0 → ⊥
 smaller-positive n zero h e = omega arith
 smaller-positive n (suc m) h e = omega arith
@@ -87,6 +92,7 @@ none-applies (r ∷ rs) p h = go (r .1) refl h (none-applies rs (both (leb 1 (r 
     go true e z ih = absurd (smaller-positive (r .0) (smallest rs) (leb-true 1 (r .0) (both (leb 1 (r .0)) (numbered rs) p .0)) z)
     go false e z ih = rw e (ih z)
 
+-- and the other way round
 pub nothing-smallest : (rs : List (ℕ × Bool)) → noneApplies rs ≡ true → smallest rs ≡ 0
 unfolding all smallest
 nothing-smallest [] h = refl

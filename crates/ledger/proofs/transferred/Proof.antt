@@ -6,7 +6,8 @@ use Rattle.rules.specs.Limits.{ceiling}
 use Rattle.rules.specs.Lists.{all}
 use Rattle.rules.specs.Effects.{balance}
 use Rattle.rules.specs.Frame.{upToCeiling}
-use Rattle.ledger.proofs.Laws.{balance-low, sent-low, transferred-is}
+use Rattle.desk.proofs.Books.{balance-low}
+use Rattle.ledger.proofs.Laws.{sent-low, transferred-is}
 use borrow.Author.Needs.{needs}
 use Rattle.ledger.proofs.transferred.Statement.{statement}
 use Rattle.ledger.proofs.transferred.Tie as tie

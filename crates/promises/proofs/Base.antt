@@ -1,0 +1,64 @@
+-- What a refused call leaves, and the induction over runs that every promise uses.
+use Prim.Native.Nat.{ℕ, zero, suc, _+_, _≤_, _<_}
+use mathlib.Core.Path.{_∙_, _≡_, refl, ap}
+use mathlib.Core.Logic.{_≢_}
+use mathlib.Core.Bool.{true, false, not, _&&_, _||_}
+use mathlib.Core.List.{List, [], _∷_, _++_, append-assoc, append-nil}
+use native.Mathlib.Omega.{arith}
+use lib.Dec.{leb, ltb, eqb}
+use lib.ListN.{length, getD}
+use borrow.Author.Tests.{leb-false, ltb-false, eqb-true, eqb-false}
+use Rattle.promises.specs.Types.{Nonce, Deposit, ClaimFields, TransferFields, WithdrawalFields, GrantFields, SignFields, Call, Payment}
+use Rattle.rules.specs.Limits.{ceiling, highestNumber, inboxRows, outboxRows, historyRows}
+use Rattle.rules.specs.Lists.{all, any}
+use Rattle.rules.specs.State.{Book, view, laid, historyOf, payments}
+use Rattle.rules.specs.Replies.{Reply, numberOf, told, if-done}
+use Rattle.rules.specs.Refusals.{refusals, traceRefusals, full}
+use Rattle.rules.specs.Effects.{effect, balance, holder, matches, total, oldest}
+use Rattle.rules.specs.Frame.{inFrame}
+use Rattle.rules.specs.History.{withdrawals, historyInFrame}
+use Rattle.rules.specs.Answer.{frameTest, replyNumber, doneAnswer, piecesOf, answer}
+use Rattle.rules.specs.Runs.{bookAfter, run, gather}
+use Rattle.rules.proofs.Shapes.{view-laid}
+use Rattle.rules.proofs.Facts.{Accepted, Within, DepositFit, ClaimFit, TransferFit, WithdrawalFit, SendFit, SettleFit, GrantFit, SignFit, TraceFit, Fit}
+use Rattle.promises.specs.Demand1.{Unchanged}
+use Rattle.rules.proofs.Tests.{twice-not, not-holds, neither, within-true, all-at, numbered, none-applies}
+use Rattle.rules.proofs.Accepts.{not-done, state-after}
+
+-- a refused call leaves the book as found, and tells neither values nor pieces
+pub refused-leaves : (b : Book) (c : Call) → replyNumber b c ≢ 0 → Unchanged b (answer b c)
+unfolding answer
+refused-leaves b c h =
+    record {
+      book = not-done (replyNumber b c) (laid (effect c (view b)) b) b h;
+      values = ap (λ (r : Reply). r .values) (not-done (replyNumber b c) (told (doneAnswer (view b) c)) (record { number = replyNumber b c; values = [] }) h);
+      pieces = not-done (replyNumber b c) (piecesOf (view b) c) [] h;
+    }
+
+-- ---- the induction over runs
+module _ {A B : Type 0} (f : Book → Call → List A) (g : Book → Call → List B) (P : List A → List B → Book → Type 0)
+    (keeps : (xs : List A) (ys : List B) (b : Book) (c : Call) → Accepted b c → P xs ys b → P (xs ++ f b c) (ys ++ g b c) (laid (effect c (view b)) b)) where
+  -- one call, accepted or refused
+  step-keeps : (xs : List A) (ys : List B) (b : Book) (c : Call) → P xs ys b
+      → P (xs ++ if-done (replyNumber b c) (f b c) []) (ys ++ if-done (replyNumber b c) (g b c) []) (bookAfter b c)
+  unfolding answer
+  step-keeps xs ys b c p = go (replyNumber b c) refl
+    where
+      go : (n : ℕ) → replyNumber b c ≡ n → P (xs ++ if-done n (f b c) []) (ys ++ if-done n (g b c) []) (if-done n (laid (effect c (view b)) b) b)
+      go zero e = keeps xs ys b c (record { done = e }) p
+      go (suc n) e = rw (append-nil xs, append-nil ys) p
+
+  -- what every accepted call keeps, of two logs and the book, holds after every run from where it held
+  pub run-keeps-from : (xs : List A) (ys : List B) (b : Book) (cs : List Call) → P xs ys b → P (xs ++ gather f b cs) (ys ++ gather g b cs) (run b cs)
+  unfolding gather run
+  run-keeps-from xs ys b [] p = rw (append-nil xs, append-nil ys) p
+  run-keeps-from xs ys b (c ∷ cs) p =
+      rw (
+        ← append-assoc xs (if-done (replyNumber b c) (f b c) []) (gather f (bookAfter b c) cs),
+        ← append-assoc ys (if-done (replyNumber b c) (g b c) []) (gather g (bookAfter b c) cs),
+      )
+      (run-keeps-from (xs ++ if-done (replyNumber b c) (f b c) []) (ys ++ if-done (replyNumber b c) (g b c) []) (bookAfter b c) cs (step-keeps xs ys b c p))
+
+  -- from empty logs
+  pub run-keeps : (b : Book) (cs : List Call) → P [] [] b → P (gather f b cs) (gather g b cs) (run b cs)
+  run-keeps b cs p = run-keeps-from [] [] b cs p

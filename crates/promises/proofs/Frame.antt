@@ -1,0 +1,182 @@
+-- Every accepted call leaves the state framed, once the sheet balances and the next nonce counts the withdrawals.
+use Prim.Native.Nat.{ℕ, _+_, _-_, _*_, _/_, _%_, _≤_, _<_}
+use mathlib.Core.Path.{_≡_, refl}
+use mathlib.Core.Bool.{Bool, true, false, cond}
+use mathlib.Core.List.{List}
+use native.Mathlib.Omega.{arith}
+use lib.ListN.{length, getD, length-append}
+use borrow.Author.Tests.{leb-true, le-leb}
+use Rattle.promises.specs.Types.{Record, Call}
+use Rattle.rules.specs.Limits.{ceiling, historyRows, highestNumber, isMember, isAsset, memberCount, assetCount}
+use Rattle.rules.specs.Lists.{all, those}
+use Rattle.rules.specs.State.{Outside, State, payments}
+use Rattle.rules.specs.Effects.{effect, balance, holdersAfter, total, raised, deposited, withdrawn, sent, settledOne, outsideAfter, recordsOf}
+use Rattle.rules.specs.Frame.{upToCeiling}
+use Rattle.rules.specs.History.{isWithdrawal, withdrawals}
+use Rattle.rules.proofs.Facts.{Within, Fit}
+use Rattle.rules.proofs.Tests.{true-within, all-at, all-of, all-set}
+use Rattle.promises.proofs.Framed.{Framed}
+use Rattle.promises.proofs.Sums.{in-sum}
+use Rattle.promises.proofs.Sheet.{Lengths, Balanced}
+use Rattle.promises.proofs.Lists.{those-append, length-those}
+use Rattle.promises.proofs.FrameTables.{InboxFramed, inbox-kept, OutboxFramed, outbox-kept}
+
+-- ---- the history, the holders, the last number, the lifetime totals
+records-kept : (s : State) (c : Call) → Fit s c → Framed s → length (effect c s .history) ≤ historyRows
+unfolding effect recordsOf
+records-kept s c k f = rw (length-append (s .history) (recordsOf c)) (go c k)
+  where
+    go : (c : Call) → Fit s c → length (s .history) + length (recordsOf c) ≤ historyRows
+    go (Call.Deposit d) k = omega arith
+    go (Call.Claim c) k = omega arith
+    go (Call.Transfer t) k = omega arith
+    go (Call.Withdraw w) k = omega arith
+    go Call.Send k = omega arith
+    go (Call.Settle n) k = omega arith
+    go (Call.Grant g) k = omega arith
+    go (Call.Sign g) k = omega arith
+    go (Call.Trace n) k = omega arith
+
+-- a grant makes a member the holder
+holders-kept : (s : State) (c : Call) → Fit s c → Framed s → all isMember (effect c s .holders) ≡ true
+unfolding effect holdersAfter
+holders-kept s (Call.Deposit d) k f = f .holders
+holders-kept s (Call.Claim c) k f = f .holders
+holders-kept s (Call.Transfer t) k f = f .holders
+holders-kept s (Call.Withdraw w) k f = f .holders
+holders-kept s Call.Send k f = f .holders
+holders-kept s (Call.Settle n) k f = f .holders
+holders-kept s (Call.Grant g) k f = all-set isMember (s .holders) (g .domain - 1) (g .to) (f .holders) (true-within 1 16 (g .to) (k .to))
+holders-kept s (Call.Sign g) k f = f .holders
+holders-kept s (Call.Trace n) k f = f .holders
+
+-- the last number and the lifetime totals: a deposit alone changes them
+pub record DepositsFramed (o : Outside) : Type 0 where
+  pub last : o .last .0 ≤ highestNumber
+  pub lifetime : all upToCeiling (o .lifetime) ≡ true
+
+-- an accepted deposit's number and sum are within their limits
+deposits-kept : (s : State) (c : Call) → Fit s c → Framed s → DepositsFramed (effect c s .outside)
+unfolding effect outsideAfter deposited withdrawn sent settledOne raised
+deposits-kept s (Call.Deposit d) k f =
+    record {
+      last = k .numbered;
+      lifetime =
+          all-set upToCeiling (s .outside .lifetime) (d .asset - 1) (total (s .outside .lifetime) (d .asset) + d .amount) (f .lifetime)
+          (le-leb (total (s .outside .lifetime) (d .asset) + d .amount) ceiling (k .below));
+    }
+deposits-kept s (Call.Claim c) k f = record { last = f .last; lifetime = f .lifetime }
+deposits-kept s (Call.Transfer t) k f = record { last = f .last; lifetime = f .lifetime }
+deposits-kept s (Call.Withdraw w) k f = record { last = f .last; lifetime = f .lifetime }
+deposits-kept s Call.Send k f = record { last = f .last; lifetime = f .lifetime }
+deposits-kept s (Call.Settle n) k f = record { last = f .last; lifetime = f .lifetime }
+deposits-kept s (Call.Grant g) k f = record { last = f .last; lifetime = f .lifetime }
+deposits-kept s (Call.Sign g) k f = record { last = f .last; lifetime = f .lifetime }
+deposits-kept s (Call.Trace n) k f = record { last = f .last; lifetime = f .lifetime }
+
+-- ---- the next nonce
+-- it is the number of withdrawals in the history
+abbrev pub Counts : State → Type 0
+Counts s = s .outside .next .0 ≡ withdrawals (s .history)
+
+-- so it is at most the number of records
+withdrawals-most : (h : List Record) → withdrawals h ≤ length h
+unfolding withdrawals
+withdrawals-most h = length-those isWithdrawal h
+
+-- a withdrawal raises both by 1, and no other call changes either
+pub counts-kept : (s : State) (c : Call) → Counts s → Counts (effect c s)
+unfolding effect outsideAfter deposited withdrawn sent settledOne recordsOf withdrawals those
+counts-kept s c h = rw (those-append isWithdrawal (s .history) (recordsOf c), length-append (those isWithdrawal (s .history)) (those isWithdrawal (recordsOf c))) (go c)
+  where
+    go : (c : Call) → outsideAfter c (s .outside) .next .0 ≡ length (those isWithdrawal (s .history)) + length (those isWithdrawal (recordsOf c))
+    go (Call.Deposit d) = omega arith
+    go (Call.Claim c) = omega arith
+    go (Call.Transfer t) = omega arith
+    go (Call.Withdraw w) = omega arith
+    go Call.Send = omega arith
+    go (Call.Settle n) = omega arith
+    go (Call.Grant g) = omega arith
+    go (Call.Sign g) = omega arith
+    go (Call.Trace n) = omega arith
+
+-- ---- balances and totals
+-- an entry of a list below the ceiling
+total-below : (ts : List ℕ) (a : ℕ) → all upToCeiling ts ≡ true → total ts a ≤ ceiling
+unfolding total
+total-below ts a h = go (isAsset a)
+  where
+    go : (t : Bool) → cond t (getD ts (a - 1) 0) 0 ≤ ceiling
+    go true = leb-true (getD ts (a - 1) 0) ceiling (all-at upToCeiling ts (a - 1) 0 refl h)
+    go false = omega arith
+
+-- every place among the balances is some member's in some asset, and every place among the totals some asset's
+place-balance : (bs : List ℕ) (i : ℕ) → i < memberCount * assetCount → getD bs i 0 ≡ balance bs (i / 8 + 1) (i % 8 + 1)
+unfolding balance
+place-balance bs i h =
+    let m : Within 1 16 (i / 8 + 1) = record { low = omega arith; high = omega arith } in
+    let a : Within 1 8 (i % 8 + 1) = record { low = omega arith; high = omega arith } in
+    let e : (i / 8 + 1 - 1) * 8 + (i % 8 + 1 - 1) ≡ i = omega arith in
+    rw (true-within 1 16 (i / 8 + 1) m, true-within 1 8 (i % 8 + 1) a, e)
+
+-- and so for the totals
+place-total : (ts : List ℕ) (i : ℕ) → i < assetCount → getD ts i 0 ≡ total ts (i + 1)
+unfolding total
+place-total ts i h =
+    let a : Within 1 8 (i + 1) = record { low = omega arith; high = omega arith } in
+    let e : i + 1 - 1 ≡ i = omega arith in
+    rw (true-within 1 8 (i + 1) a, e)
+
+-- where the sheet balances, no balance and no settled total is above the lifetime total
+balances-below : (s : State) → Lengths s → ((a : ℕ) → Balanced s a) → all upToCeiling (s .outside .lifetime) ≡ true → all upToCeiling (s .balances) ≡ true
+balances-below s l sheet h = all-of upToCeiling 0 (s .balances) each
+  where
+    each : (i : ℕ) → i < length (s .balances) → upToCeiling (getD (s .balances) i 0) ≡ true
+    each i p =
+        let a : ℕ = i % 8 + 1 in
+        let q : i < 128 = omega (arith, l .balances) in
+        le-leb (getD (s .balances) i 0) ceiling
+        (omega (
+          arith,
+          place-balance (s .balances) i q,
+          in-sum (λ n. balance (s .balances) n (i % 8 + 1)) (i / 8 + 1) 1 16 (omega arith) (omega arith),
+          sheet (i % 8 + 1),
+          total-below (s .outside .lifetime) (i % 8 + 1) h,
+        ))
+
+-- and no settled total is above the ceiling
+settled-below : (s : State) → Lengths s → ((a : ℕ) → Balanced s a) → all upToCeiling (s .outside .lifetime) ≡ true → all upToCeiling (s .outside .settled) ≡ true
+settled-below s l sheet h = all-of upToCeiling 0 (s .outside .settled) each
+  where
+    each : (i : ℕ) → i < length (s .outside .settled) → upToCeiling (getD (s .outside .settled) i 0) ≡ true
+    each i p =
+        le-leb (getD (s .outside .settled) i 0) ceiling
+        (omega (
+          arith,
+          place-total (s .outside .settled) i (omega (arith, l .settled)),
+          sheet (i + 1),
+          total-below (s .outside .lifetime) (i + 1) h,
+        ))
+
+-- ---- the whole
+pub framed-kept : (s : State) (c : Call) → Fit s c → Framed s → Lengths (effect c s) → ((a : ℕ) → Balanced (effect c s) a) → Counts (effect c s) → Framed (effect c s)
+framed-kept s c k f l sheet n =
+    let inbox : InboxFramed (effect c s .outside .last .0) (effect c s .inbox) = inbox-kept s c k f in
+    let outbox : OutboxFramed (effect c s .outside .next .0) (payments (effect c s .outside)) = outbox-kept s c k f in
+    let brought : DepositsFramed (effect c s .outside) = deposits-kept s c k f in
+    let records : length (effect c s .history) ≤ historyRows = records-kept s c k f in
+    record {
+      unclaimed = inbox .count;
+      queued = outbox .count;
+      records = records;
+      balances = balances-below (effect c s) l sheet (brought .lifetime);
+      lifetime = brought .lifetime;
+      settled = settled-below (effect c s) l sheet (brought .lifetime);
+      inboxFields = inbox .fields;
+      outboxFields = outbox .fields;
+      numbers = inbox .numbers;
+      nonces = outbox .nonces;
+      last = brought .last;
+      next = omega (arith, withdrawals-most (effect c s .history));
+      holders = holders-kept s c k f;
+    }

@@ -1,0 +1,169 @@
+-- The frame as facts about the state, with the tables' sizes apart: what a book in frame gives, and what puts a laid book in frame.
+use Prim.Native.Nat.{ℕ, zero, suc, _+_, _-_, _*_, _≤_, max}
+use mathlib.Core.Path.{_≡_, refl, sym, ap, _∙_}
+use mathlib.Core.Bool.{Bool, true}
+use mathlib.Core.List.{List, [], _∷_, _++_}
+use native.Mathlib.Nat.{add-mul, suc-mul, zero-mul}
+use native.Mathlib.Omega.{arith}
+use lib.Dec.{leb}
+use lib.ListN.{length, getD, take, drop, replicate, length-append, length-drop, length-replicate, take-append-drop}
+use borrow.Author.Tests.{leb-true, le-leb, eqb-true, eq-eqb}
+use Rattle.rules.specs.Limits.{inboxRows, outboxRows, historyRows, highestNumber, highestNext, isMember}
+use Rattle.rules.specs.Lists.{all, ands, joined}
+use Rattle.rules.specs.Tables.{Shape, Sound, lay, depositShape, paymentShape, recordShape}
+use Rattle.rules.specs.State.{State, Book, view, laid, deskOf, payments, inboxOf, outboxOf}
+use Rattle.rules.specs.Frame.{hasRows, upToCeiling, depositInLimits, paymentInLimits, numbersRise, noncesRise, inFrame}
+use Rattle.rules.proofs.Laying.{length-rows, rows-laid}
+use Rattle.rules.proofs.Shapes.{depositSound, paymentSound, recordSound}
+use Rattle.rules.proofs.Tests.{both}
+
+-- the lent tables have their sizes
+pub record Sized (b : Book) : Type 0 where
+  pub inboxSize : length (b .inbox) ≡ 256
+  pub outboxSize : length (b .outbox) ≡ 128
+  pub historySize : length (b .history) ≡ 5120
+
+-- every other clause of the frame, said of the state
+pub record Framed (s : State) : Type 0 where
+  pub unclaimed : length (s .inbox) ≤ inboxRows
+  pub queued : length (payments (s .outside)) ≤ outboxRows
+  pub records : length (s .history) ≤ historyRows
+  pub balances : all upToCeiling (s .balances) ≡ true
+  pub lifetime : all upToCeiling (s .outside .lifetime) ≡ true
+  pub settled : all upToCeiling (s .outside .settled) ≡ true
+  pub inboxFields : all depositInLimits (s .inbox) ≡ true
+  pub outboxFields : all paymentInLimits (payments (s .outside)) ≡ true
+  pub numbers : numbersRise 0 (s .outside .last .0) (s .inbox) ≡ true
+  pub nonces : noncesRise (s .outside .next .0) (payments (s .outside)) ≡ true
+  pub last : s .outside .last .0 ≤ highestNumber
+  pub next : s .outside .next .0 ≤ highestNext
+  pub holders : all isMember (s .holders) ≡ true
+
+-- of tests that all hold the one at any place holds
+ands-at : (ts : List Bool) (k : ℕ) → ands ts ≡ true → getD ts k true ≡ true
+unfolding ands
+ands-at [] k h = refl
+ands-at (t ∷ ts) zero h = both t (ands ts) h .0
+ands-at (t ∷ ts) (suc k) h = ands-at ts k (both t (ands ts) h .1)
+
+-- the tests of a book in frame
+tests : Book → List Bool
+tests b =
+    hasRows depositShape inboxRows (b .inbox)
+    ∷ hasRows paymentShape outboxRows (b .outbox)
+    ∷ hasRows recordShape historyRows (b .history)
+    ∷ leb (b .desk .unclaimed) inboxRows
+    ∷ leb (b .desk .payments) outboxRows
+    ∷ leb (b .desk .records) historyRows
+    ∷ leb (b .desk .inflight) (b .desk .payments)
+    ∷ all upToCeiling (b .desk .balances)
+    ∷ all upToCeiling (b .desk .lifetime)
+    ∷ all upToCeiling (b .desk .settled)
+    ∷ all depositInLimits (inboxOf b)
+    ∷ all paymentInLimits (outboxOf b)
+    ∷ numbersRise 0 (b .desk .last .0) (inboxOf b)
+    ∷ noncesRise (b .desk .next .0) (outboxOf b)
+    ∷ leb (b .desk .last .0) highestNumber
+    ∷ leb (b .desk .next .0) highestNext
+    ∷ all isMember (b .desk .holders)
+    ∷ []
+
+-- each of them holds
+passed : (b : Book) → inFrame b ≡ true → (k : ℕ) → getD (tests b) k true ≡ true
+unfolding inFrame tests
+passed b h k = ands-at (tests b) k h
+
+-- a book in frame has tables of the right size
+pub sized : (b : Book) → inFrame b ≡ true → Sized b
+unfolding tests
+sized b h =
+    record {
+      inboxSize = eqb-true (length (b .inbox)) 256 (passed b h 0);
+      outboxSize = eqb-true (length (b .outbox)) 128 (passed b h 1);
+      historySize = eqb-true (length (b .history)) 5120 (passed b h 2);
+    }
+
+-- and its state is framed
+pub framed : (b : Book) → inFrame b ≡ true → Framed (view b)
+unfolding tests view
+framed b h =
+    let out : take (b .desk .inflight) (outboxOf b) ++ drop (b .desk .inflight) (outboxOf b) ≡ outboxOf b = take-append-drop (b .desk .inflight) (outboxOf b) in
+    record {
+      unclaimed = rw (length-rows depositShape (b .desk .unclaimed) (b .inbox)) (leb-true (b .desk .unclaimed) 64 (passed b h 3));
+      queued = rw (out, length-rows paymentShape (b .desk .payments) (b .outbox)) (leb-true (b .desk .payments) 32 (passed b h 4));
+      records = rw (length-rows recordShape (b .desk .records) (b .history)) (leb-true (b .desk .records) 1024 (passed b h 5));
+      balances = passed b h 7;
+      lifetime = passed b h 8;
+      settled = passed b h 9;
+      inboxFields = passed b h 10;
+      outboxFields = rw out (passed b h 11);
+      numbers = passed b h 12;
+      nonces = rw out (passed b h 13);
+      last = leb-true (b .desk .last .0) highestNumber (passed b h 14);
+      next = leb-true (b .desk .next .0) highestNext (passed b h 15);
+      holders = passed b h 16;
+    }
+
+-- a framed state, laid into tables that keep their sizes, is in frame
+pub in-frame : (s : State) (b : Book) → Framed s → Sized (laid s b) → inFrame (laid s b) ≡ true
+unfolding inFrame ands laid deskOf
+in-frame s b f z =
+    rw (
+      eq-eqb (length (laid s b .inbox)) 256 (z .inboxSize),
+      eq-eqb (length (laid s b .outbox)) 128 (z .outboxSize),
+      eq-eqb (length (laid s b .history)) 5120 (z .historySize),
+      rows-laid depositShape depositSound (s .inbox) (b .desk .unclaimed) (b .inbox),
+      rows-laid paymentShape paymentSound (payments (s .outside)) (b .desk .payments) (b .outbox),
+      le-leb (length (s .inbox)) 64 (f .unclaimed),
+      le-leb (length (payments (s .outside))) 32 (f .queued),
+      le-leb (length (s .history)) 1024 (f .records),
+      le-leb (length (s .outside .inflight)) (length (payments (s .outside))) (rw length-append (omega arith)),
+      f .balances,
+      f .lifetime,
+      f .settled,
+      f .inboxFields,
+      f .outboxFields,
+      f .numbers,
+      f .nonces,
+      le-leb (s .outside .last .0) highestNumber (f .last),
+      le-leb (s .outside .next .0) highestNext (f .next),
+      f .holders,
+    )
+
+-- ---- laying keeps a table's size
+module _ {A : Type 0} (shape : Shape A) (sound : Sound shape) where
+  -- so many rows are so many times the width
+  length-joined : (rows : List A) → length (joined (shape .flat) rows) ≡ length rows * shape .width
+  unfolding joined
+  length-joined [] = sym (zero-mul (shape .width))
+  length-joined (r ∷ rows) = rw (length-append (shape .flat r) (joined (shape .flat) rows), sound .wide r, length-joined rows, suc-mul (length rows) (shape .width)) (omega arith)
+
+  -- where the table has room for the rows before and after
+  pub length-lay : (rows : List A) (n : ℕ) (t : List ℕ) → max n (length rows) * shape .width ≤ length t → length (lay shape rows n t) ≡ length t
+  unfolding lay
+  length-lay rows n t h =
+      let e : max n (length rows) ≡ length rows + (n - length rows) = omega arith in
+      let p : max n (length rows) * shape .width ≡ length rows * shape .width + (n - length rows) * shape .width =
+      ap (λ (k : ℕ). k * shape .width) e ∙ add-mul (length rows) (n - length rows) (shape .width) in
+      rw (
+        length-append (joined (shape .flat) rows ++ replicate ((n - length rows) * shape .width) 0) (drop (max n (length rows) * shape .width) t),
+        length-append (joined (shape .flat) rows) (replicate ((n - length rows) * shape .width) 0),
+        length-joined rows,
+        length-replicate {A = ℕ} ((n - length rows) * shape .width) 0,
+        length-drop (max n (length rows) * shape .width) t,
+      )
+      (omega arith)
+
+-- a book in frame with a framed state laid into it keeps its tables' sizes
+pub sized-laid : (s : State) (b : Book) → inFrame b ≡ true → Framed s → Sized (laid s b)
+unfolding laid tests
+sized-laid s b h f =
+    let z : Sized b = sized b h in
+    let u : b .desk .unclaimed ≤ 64 = leb-true (b .desk .unclaimed) 64 (passed b h 3) in
+    let p : b .desk .payments ≤ 32 = leb-true (b .desk .payments) 32 (passed b h 4) in
+    let r : b .desk .records ≤ 1024 = leb-true (b .desk .records) 1024 (passed b h 5) in
+    record {
+      inboxSize = length-lay depositShape depositSound (s .inbox) (b .desk .unclaimed) (b .inbox) (omega arith) ∙ z .inboxSize;
+      outboxSize = length-lay paymentShape paymentSound (payments (s .outside)) (b .desk .payments) (b .outbox) (omega arith) ∙ z .outboxSize;
+      historySize = length-lay recordShape recordSound (s .history) (b .desk .records) (b .history) (omega arith) ∙ z .historySize;
+    }

@@ -1,0 +1,27 @@
+-- The proofs of the promises: demand 1, demand 2, demand 3.
+pub mod Base
+pub mod Replies
+pub mod Lines
+pub mod EmptyFields
+pub mod Demand1
+pub mod Lists
+pub mod Cells
+pub mod Sums
+pub mod Framed
+pub mod Sheet
+pub mod FrameTables
+pub mod Frame
+pub mod History
+pub mod Reached
+pub mod Accepts
+pub mod Order
+pub mod Queue
+pub mod Demand2
+pub mod Demand3Unwinding
+pub mod OutsideMachine
+pub mod MemberUnwinding
+pub mod MemberInbox
+pub mod MemberDomains
+pub mod MemberStatement
+pub mod MemberReplies
+pub mod Demand3Examples

@@ -1,0 +1,1 @@
+// No code: the demands as statements (specs/), and their proofs (proofs/).
