@@ -99,21 +99,15 @@ pub fn grant(
 ) -> Answered
     ensures { λ r. ⌜ outcomeOf r (now (inbox .entry)) (now (outbox .entry)) (now (history .exit)) ≡ answer (bookOf d (now (inbox .entry)) (now (outbox .entry)) (now (history .entry))) (Call.Grant g) ⌝ }
 {
-    let reply = grant_reply(d, inbox, outbox, history, g);
-    if !is_done(reply) {
-        return Answered {
-            answer: reply,
-            desk: d,
-        };
+    let answer = grant_reply(d, inbox, outbox, history, g);
+    if !is_done(answer) {
+        return Answered { answer, desk: d };
     }
     let at = d.records * 5;
     let row = [4, g.domain, 1, g.from, g.to];
     put_row(history, at, &row);
     let desk = granted(d, g);
-    Answered {
-        answer: reply,
-        desk,
-    }
+    Answered { answer, desk }
 }
 
 // The grant's table of refusals, the largest number first.

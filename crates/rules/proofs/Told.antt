@@ -136,3 +136,7 @@ outcome-once o r r′ i i′ b b′ h h′ p q =
       ap (λ (x : Outcome). x .book .outbox) e,
       ap (λ (x : Outcome). x .book .history) e,
     )
+
+-- of a function whose contract is an equation for its result
+pub once : {A : Type 0} (x : A) {r r′ : A} → r ≡ x → r′ ≡ x → r ≡ r′
+once x p q = p ∙ sym q

@@ -1,3 +1,4 @@
 pub mod Edits
 pub mod Rest
 pub mod Find
+pub mod Once

@@ -1,0 +1,36 @@
+-- Any two results that a public function's contract allows coincide: each contract is an equation. Of the tests on fields (is_within, is_member, is_asset, is_domain, is_amount, is_payee) one lemma speaks for all.
+use Prim.Native.Nat.{ℕ}
+use mathlib.Core.Path.{_≡_}
+use mathlib.Core.Bool.{Bool, cond}
+use mathlib.Core.List.{List}
+use Rattle.rules.specs.declared.desk.Desk.{Desk}
+use Rattle.rules.specs.declared.answers.Refusal.{Refusal}
+use Rattle.rules.specs.declared.answers.Answer.{Answer}
+use Rattle.rules.specs.State.{Book}
+use Rattle.rules.specs.Effects.{balance}
+use Rattle.rules.specs.Frame.{inFrame}
+use Rattle.rules.proofs.Told.{once}
+use Rattle.desk.specs.Parts.{ofEight, isDone}
+use Rattle.desk.specs.Kept.{balanceKept, holderKept, lifetimeKept, settledKept}
+
+pub field-once : (test : ℕ → Bool) (x : ℕ) {r r′ : Bool} → r ≡ test x → r′ ≡ test x → r ≡ r′
+field-once test x = once (test x)
+
+pub balance-of-once : (bs : List ℕ) (m a : ℕ) {r r′ : ℕ} → r ≡ balance bs m a → r′ ≡ balance bs m a → r ≡ r′
+balance-of-once bs m a = once (balance bs m a)
+
+pub of-eight-once : (xs : List ℕ) (i : ℕ) {r r′ : ℕ} → r ≡ ofEight xs i → r′ ≡ ofEight xs i → r ≡ r′
+of-eight-once xs i = once (ofEight xs i)
+
+pub refuse-once : (applies : Bool) (why : Refusal) (rest : Answer) {r r′ : Answer} → r ≡ cond applies (Answer.Refused why) rest → r′ ≡ cond applies (Answer.Refused why) rest → r ≡ r′
+refuse-once applies why rest = once (cond applies (Answer.Refused why) rest)
+
+pub is-done-once : (a : Answer) {r r′ : Bool} → r ≡ isDone a → r′ ≡ isDone a → r ≡ r′
+is-done-once a = once (isDone a)
+
+pub in-frame-once : (b : Book) {r r′ : Bool} → r ≡ inFrame b → r′ ≡ inFrame b → r ≡ r′
+in-frame-once b = once (inFrame b)
+
+-- with_balance, with_holder, with_lifetime, with_settled
+pub kept-once : (kept : Desk) {r r′ : Desk} → r ≡ kept → r′ ≡ kept → r ≡ r′
+kept-once kept = once kept

@@ -1,0 +1,248 @@
+-- What deposit and claim refuse, as the code's chain; and what a done one lays back.
+use Prim.Native.Nat.{ℕ, zero, suc, _+_, _-_, _*_, _≤_, _<_, zero-le, suc-le-suc}
+use mathlib.Core.Path.{_≡_, refl, sym, ap, _∙_}
+use mathlib.Core.Bool.{Bool, true, false, not, _&&_, _||_, cond, and-true}
+use mathlib.Core.List.{List, [], _∷_, _++_}
+use native.Mathlib.Nat.{add-zero}
+use native.Mathlib.Omega.{arith}
+use lib.Dec.{leb, ltb, eqb, eqb·zero-suc, eqb·suc-suc}
+use lib.ListN.{length, getD, set, take, drop, length-append, length-drop}
+use lib.Seq.{length-take-le}
+use borrow.Author.Tests.{leb-true, le-leb, lt-ltb, le-ltb, ltb-true, eq-eqb, ne-eqb, eqb-true, eqb-false}
+use Rattle.rules.specs.declared.rows.Deposit.{Deposit}
+use Rattle.rules.specs.declared.rows.Record.{Record}
+use Rattle.rules.specs.declared.desk.Desk.{Desk}
+use Rattle.rules.specs.declared.calls.Call.{Call}
+use Rattle.rules.specs.declared.calls.ClaimFields.{ClaimFields}
+use Rattle.rules.specs.declared.answers.Refusal.{Refusal}
+use Rattle.rules.specs.Limits.{ceiling, highestNumber, isMember, isAsset, isAmount}
+use Rattle.rules.specs.Lists.{all, any, same, indexOf}
+use Rattle.rules.specs.Tables.{Edit, rowsOf, lay, edited, editedTable, HasRoom, depositShape, recordShape}
+use Rattle.rules.specs.State.{Book, view, laid, deskOf, inboxOf, historyOf, payments}
+use Rattle.rules.specs.Replies.{numberOf, told, plain}
+use Rattle.rules.specs.Refusals.{refusals, full}
+use Rattle.rules.specs.Effects.{balance, credit, total, raised, matches, deposited, effect, balancesAfter, holdersAfter, inboxEdit, outsideAfter, recordsOf}
+use Rattle.rules.specs.Frame.{inFrame}
+use Rattle.rules.specs.Answer.{frameTest, replyNumber, bookOf}
+use Rattle.rules.proofs.Laying.{length-rows, lay-edited}
+use Rattle.rules.proofs.Shapes.{depositSound}
+use Rattle.rules.proofs.Facts.{Within, Accepted, DepositFit, ClaimFit}
+use Rattle.rules.proofs.Tests.{both-of, true-within}
+use Rattle.rules.proofs.Accepts.{fit, accepted-frame}
+use Rattle.tables.specs.Rows.{bare, putAt, takenOut, placeOf}
+use Rattle.desk.specs.Kept.{balanceKept, lifetimeKept, withCounts}
+use Rattle.desk.specs.Parts.{ofEight}
+use Rattle.desk.proofs.Chains.{Entry, chain, notBelow, chain-told, chain-frame}
+use Rattle.desk.proofs.Books.{Framed, framed, outbox-kept, history-kept, record-added, inbox-count, outbox-count, flight-count, history-count}
+use Rattle.inbox.specs.After.{withLast, depositedDesk, claimedDesk, rowOf, isGap, passesCeiling, CanDeposit, CanClaim}
+
+-- ---- tests on any two numbers
+-- two orders that say the same
+same-order : (a b c d : ℕ) → (a < b → c < d) → (c < d → a < b) → ltb a b ≡ ltb c d
+same-order a b c d f g = go (ltb a b) refl
+  where
+    not-then : (t : Bool) → ltb c d ≡ t → ltb a b ≡ false → false ≡ ltb c d
+    not-then true q e = sym e ∙ lt-ltb a b (g (ltb-true c d q)) ∙ sym q
+    not-then false q e = sym q
+
+    go : (t : Bool) → ltb a b ≡ t → t ≡ ltb c d
+    go true e = sym (lt-ltb c d (f (ltb-true a b e)))
+    go false e = not-then (ltb c d) refl e
+
+pub gap-below : (last number : ℕ) → number ≤ last → ltb highestNumber number ≡ isGap last number
+gap-below last number h = rw (le-ltb (last + 1) number (omega arith))
+
+pub gap-above : (last number : ℕ) → last < number → (ltb 1 (number - last) || ltb highestNumber number) ≡ isGap last number
+gap-above last number h = rw (same-order 1 (number - last) (last + 1) number (λ g. omega arith) (λ g. omega arith))
+
+pub ceiling-alone : (sum amount : ℕ) → ceiling < amount → true ≡ passesCeiling sum amount
+ceiling-alone sum amount h = sym (lt-ltb ceiling (sum + amount) (omega arith))
+
+pub ceiling-with : (sum amount : ℕ) → amount ≤ ceiling → ltb (ceiling - amount) sum ≡ passesCeiling sum amount
+ceiling-with sum amount h = same-order (ceiling - amount) sum ceiling (sum + amount) (λ g. omega arith) (λ g. omega arith)
+
+-- ---- deposit
+abbrev pub depositEntries : Book → Deposit → List Entry
+depositEntries b x =
+    (Refusal.BadBook, not (inFrame b))
+    ∷ (Refusal.BadMember, not (isMember (x .member)))
+    ∷ (Refusal.BadAsset, not (isAsset (x .asset)))
+    ∷ (Refusal.BadAmount, not (isAmount (x .amount)))
+    ∷ (Refusal.Old, leb (x .number .0) (b .desk .last .0))
+    ∷ (Refusal.Gap, isGap (b .desk .last .0) (x .number .0))
+    ∷ (Refusal.Ceiling, passesCeiling (ofEight (b .desk .lifetime) (x .asset)) (x .amount))
+    ∷ (Refusal.InboxFull, leb 64 (b .desk .unclaimed))
+    ∷ []
+
+pub deposit-told : (b : Book) (x : Deposit) → told (chain (depositEntries b x)) ≡ plain (replyNumber b (Call.Deposit x))
+unfolding replyNumber frameTest refusals full total view numberOf notBelow all
+deposit-told b x = rw (length-rows depositShape (b .desk .unclaimed) (b .inbox)) (chain-told (depositEntries b x) refl)
+
+pub can-deposit : (b : Book) (x : Deposit) → Accepted b (Call.Deposit x) → CanDeposit (b .desk) x
+unfolding view
+can-deposit b x a =
+    let f : Framed b = framed b (accepted-frame b (Call.Deposit x) a) in
+    let q : DepositFit (view b) x = fit b (Call.Deposit x) a in
+    let l : length (inboxOf b) ≡ b .desk .unclaimed = length-rows depositShape (b .desk .unclaimed) (b .inbox) in
+    record { asset = q .asset; amount = q .amount .high; lifetime = f .lifetime; unclaimed = omega (arith, q .room) }
+
+pub deposited-is : (d : Desk) (x : Deposit) → CanDeposit d x
+    → (let next = lifetimeKept d (x .asset) (ofEight (d .lifetime) (x .asset) + x .amount) in
+    withLast (withCounts next (d .unclaimed + 1) (next .payments) (next .inflight) (next .records)) (x .number))
+    ≡ depositedDesk d x
+unfolding lifetimeKept depositedDesk raised total
+deposited-is d x c = rw (true-within 1 8 (x .asset) (c .asset))
+
+-- one deposit more at the end of the inbox
+deposit-added : (b : Book) (x : Deposit) → Framed b → b .desk .unclaimed < 64
+    → lay depositShape (inboxOf b ++ (x ∷ [])) (b .desk .unclaimed) (b .inbox) ≡ putAt (b .desk .unclaimed * 4) (depositShape .flat x) (b .inbox)
+unfolding edited editedTable HasRoom putAt
+deposit-added b x f h =
+    rw (le-leb (b .desk .unclaimed * 4 + 4) (length (b .inbox)) (omega arith))
+    (lay-edited depositShape depositSound (Edit.add x) (b .desk .unclaimed) (b .inbox) (omega arith))
+
+pub deposit-laid : (b : Book) (x : Deposit) → Framed b → b .desk .unclaimed < 64
+    → bookOf (depositedDesk (b .desk) x) (putAt (b .desk .unclaimed * 4) (x .number .0 ∷ x .asset ∷ x .amount ∷ x .member ∷ []) (b .inbox)) (b .outbox) (b .history)
+    ≡ laid (effect (Call.Deposit x) (view b)) b
+unfolding laid deskOf effect balancesAfter holdersAfter inboxEdit edited outsideAfter deposited recordsOf depositedDesk view
+deposit-laid b x f h =
+    rw (deposit-added b x f h, outbox-kept b f, history-kept b f, length-append (inboxOf b) (x ∷ []), inbox-count b f, outbox-count b f, flight-count b f, history-count b f [], add-zero)
+
+-- ---- the place of the deposit that a claim names
+-- none passes where the place of the first that does is past the last
+pub none-found : {A : Type 0} (p : A → Bool) (l : List A) → not (any p l) ≡ eqb (indexOf p l) (length l)
+unfolding any indexOf
+none-found p [] = refl
+none-found p (x ∷ l) = go (p x) (none-found p l)
+  where
+    go : (t : Bool) → not (any p l) ≡ eqb (indexOf p l) (length l) → not (t || any p l) ≡ eqb (cond t 0 (suc (indexOf p l))) (suc (length l))
+    go true ih = sym (eqb·zero-suc (length l))
+    go false ih = ih ∙ sym (eqb·suc-suc (indexOf p l) (length l))
+
+eqb-comm : (a b : ℕ) → eqb a b ≡ eqb b a
+eqb-comm a b = go (eqb a b) refl
+  where
+    go : (t : Bool) → eqb a b ≡ t → t ≡ eqb b a
+    go true e = sym (eq-eqb b a (sym (eqb-true a b e)))
+    go false e = sym (ne-eqb b a (λ q. eqb-false a b e (sym q)))
+
+-- a row of four numbers is the claim's row where it is a deposit that matches
+row-matches : (c : ClaimFields) (r : List ℕ) → length r ≡ 4 → same (rowOf c) r ≡ matches c (depositShape .row r)
+unfolding same matches
+row-matches c [] e = absurd (omega arith)
+row-matches c (a ∷ []) e = absurd (omega arith)
+row-matches c (a ∷ b ∷ []) e = absurd (omega arith)
+row-matches c (a ∷ b ∷ x ∷ []) e = absurd (omega arith)
+row-matches c (a ∷ b ∷ x ∷ m ∷ []) e =
+    rw (eqb-comm (c .number .0) a, eqb-comm (c .asset) b, eqb-comm (c .amount) x, eqb-comm (c .member) m, and-true)
+row-matches c (a ∷ b ∷ x ∷ m ∷ y ∷ r) e = absurd (omega arith)
+
+place-rows : (c : ClaimFields) (n : ℕ) (t : List ℕ) → n * 4 ≤ length t → indexOf (same (rowOf c)) (rowsOf (bare 4) n t) ≡ indexOf (matches c) (rowsOf depositShape n t)
+unfolding rowsOf indexOf
+place-rows c zero t h = refl
+place-rows c (suc n) t h =
+    let e : suc n * 4 ≡ n * 4 + 4 = omega arith in
+    let l : length (take 4 t) ≡ 4 = length-take-le 4 t (omega arith) in
+    rw (row-matches c (take 4 t) l, place-rows c n (drop 4 t) (rw length-drop (omega arith)))
+
+pub place-is : (b : Book) (c : ClaimFields) → Framed b → placeOf (rowOf c) (b .desk .unclaimed) (b .inbox) ≡ indexOf (matches c) (inboxOf b)
+unfolding placeOf
+place-is b c f = rw (le-leb (b .desk .unclaimed * 4) (length (b .inbox)) (omega arith)) (place-rows c (b .desk .unclaimed) (b .inbox) (omega arith))
+
+-- ---- claim
+-- the entries after BadBook, with this for whether no deposit matches
+abbrev pub claimTests : Book → ClaimFields → Bool → List Entry
+claimTests b c none =
+    (Refusal.BadMember, not (isMember (c .member)))
+    ∷ (Refusal.BadAsset, not (isAsset (c .asset)))
+    ∷ (Refusal.BadAmount, not (isAmount (c .amount)))
+    ∷ (Refusal.NoSuchDeposit, none)
+    ∷ (Refusal.HistoryFull, leb 1024 (b .desk .records))
+    ∷ []
+
+pub claim-told : (b : Book) (c : ClaimFields)
+    → told (chain ((Refusal.BadBook, not (inFrame b)) ∷ claimTests b c (eqb (placeOf (rowOf c) (b .desk .unclaimed) (b .inbox)) (b .desk .unclaimed))))
+    ≡ plain (replyNumber b (Call.Claim c))
+unfolding replyNumber frameTest refusals full view numberOf notBelow all
+claim-told b c =
+    ap told (chain-frame (inFrame b) (claimTests b c (eqb (placeOf (rowOf c) (b .desk .unclaimed) (b .inbox)) (b .desk .unclaimed))) (claimTests b c (not (any (matches c) (inboxOf b))))
+    (λ h. ap (claimTests b c) (found h)))
+    ∙ rw (length-rows recordShape (b .desk .records) (b .history)) (chain-told ((Refusal.BadBook, not (inFrame b)) ∷ claimTests b c (not (any (matches c) (inboxOf b)))) refl)
+  where
+    found : inFrame b ≡ true → eqb (placeOf (rowOf c) (b .desk .unclaimed) (b .inbox)) (b .desk .unclaimed) ≡ not (any (matches c) (inboxOf b))
+    found h =
+        rw (place-is b c (framed b h), none-found (matches c) (inboxOf b), length-rows depositShape (b .desk .unclaimed) (b .inbox))
+
+-- it is one of the rows, or past them
+index-le : {A : Type 0} (p : A → Bool) (l : List A) → indexOf p l ≤ length l
+unfolding indexOf
+index-le p [] = zero-le
+index-le p (x ∷ l) = go (p x) (index-le p l)
+  where
+    go : (t : Bool) → indexOf p l ≤ length l → cond t 0 (suc (indexOf p l)) ≤ suc (length l)
+    go true h = zero-le
+    go false h = suc-le-suc h
+
+-- the place of a claimed deposit is one of the used rows
+pub claim-place : (b : Book) (c : ClaimFields) → Accepted b (Call.Claim c) → indexOf (matches c) (inboxOf b) < b .desk .unclaimed
+unfolding view
+claim-place b c a =
+    let q : ClaimFit (view b) c = fit b (Call.Claim c) a in
+    let l : length (inboxOf b) ≡ b .desk .unclaimed = length-rows depositShape (b .desk .unclaimed) (b .inbox) in
+    let e : eqb (indexOf (matches c) (inboxOf b)) (length (inboxOf b)) ≡ false = sym (none-found (matches c) (inboxOf b)) ∙ ap not (q .found) in
+    let n : indexOf (matches c) (inboxOf b) ≡ length (inboxOf b) → ⊥ = eqb-false (indexOf (matches c) (inboxOf b)) (length (inboxOf b)) e in
+    omega (arith, index-le (matches c) (inboxOf b))
+
+pub can-claim : (b : Book) (c : ClaimFields) → Accepted b (Call.Claim c) → CanClaim (b .desk) c
+unfolding view
+can-claim b c a =
+    let f : Framed b = framed b (accepted-frame b (Call.Claim c) a) in
+    let q : ClaimFit (view b) c = fit b (Call.Claim c) a in
+    let l : length (historyOf b) ≡ b .desk .records = length-rows recordShape (b .desk .records) (b .history) in
+    record {
+      member = q .member;
+      asset = q .asset;
+      amount = q .amount .high;
+      balances = f .balances;
+      unclaimed = omega (arith, claim-place b c a);
+      records = omega (arith, q .room);
+    }
+
+pub claimed-is : (d : Desk) (c : ClaimFields) → CanClaim d c
+    → (let next = balanceKept d (c .member) (c .asset) (balance (d .balances) (c .member) (c .asset) + c .amount) in
+    withCounts next (d .unclaimed - 1) (next .payments) (next .inflight) (d .records + 1))
+    ≡ claimedDesk d c
+unfolding balanceKept claimedDesk credit
+claimed-is d c y = rw (both-of (isMember (c .member)) (isAsset (c .asset)) (true-within 1 16 (c .member) (y .member)) (true-within 1 8 (c .asset) (y .asset)))
+
+-- the claimed row leaves: "the rest keeping their order", and the last used row becomes zeros
+claim-taken : (b : Book) (i : ℕ) → Framed b → i < b .desk .unclaimed
+    → lay depositShape (edited (Edit.takeOut i) (inboxOf b)) (b .desk .unclaimed) (b .inbox) ≡ takenOut 4 i (b .desk .unclaimed) (b .inbox)
+unfolding editedTable HasRoom takenOut
+claim-taken b i f h =
+    rw (le-leb (b .desk .unclaimed * 4) (length (b .inbox)) (omega arith), lt-ltb i (b .desk .unclaimed) h)
+    (lay-edited depositShape depositSound (Edit.takeOut i) (b .desk .unclaimed) (b .inbox) (h, omega arith))
+
+claim-count : (b : Book) (i : ℕ) → i < b .desk .unclaimed → length (edited (Edit.takeOut i) (inboxOf b)) ≡ b .desk .unclaimed - 1
+unfolding edited
+claim-count b i h =
+    let l : length (inboxOf b) ≡ b .desk .unclaimed = length-rows depositShape (b .desk .unclaimed) (b .inbox) in
+    length-append (take i (inboxOf b)) (drop (suc i) (inboxOf b))
+    ∙ rw (length-take-le i (inboxOf b) (omega arith), length-drop (suc i) (inboxOf b), l) (omega arith)
+
+pub claim-laid : (b : Book) (c : ClaimFields) → Framed b → indexOf (matches c) (inboxOf b) < b .desk .unclaimed → b .desk .records < 1024
+    → bookOf (claimedDesk (b .desk) c) (takenOut 4 (indexOf (matches c) (inboxOf b)) (b .desk .unclaimed) (b .inbox)) (b .outbox)
+    (putAt (b .desk .records * 5) (1 ∷ c .asset ∷ c .amount ∷ c .member ∷ c .number .0 ∷ []) (b .history))
+    ≡ laid (effect (Call.Claim c) (view b)) b
+unfolding laid deskOf effect balancesAfter holdersAfter inboxEdit outsideAfter recordsOf claimedDesk view
+claim-laid b c f h k =
+    let r : Record = record { kind = 1; asset = c .asset; amount = c .amount; first = c .member; second = c .number .0 } in
+    rw (
+      claim-taken b (indexOf (matches c) (inboxOf b)) f h,
+      outbox-kept b f,
+      record-added b f r k,
+      claim-count b (indexOf (matches c) (inboxOf b)) h,
+      outbox-count b f,
+      flight-count b f,
+      history-count b f (r ∷ []),
+    )

@@ -1,0 +1,161 @@
+// The inbox: deposit and claim. Each is lent all three tables, tests the whole frame, and says in one
+// equation what it answers and what it leaves of the desk and every row.
+use desk::answers::is_done;
+use desk::answers::refuse;
+use desk::fields::balance_of;
+use desk::fields::is_amount;
+use desk::fields::is_asset;
+use desk::fields::is_member;
+use desk::fields::of_eight;
+use desk::frame::in_frame;
+use desk::keep::with_balance;
+use desk::keep::with_lifetime;
+use rules::answers::Answer;
+use rules::answers::Answered;
+use rules::answers::Refusal;
+use rules::calls::ClaimFields;
+use rules::desk::Desk;
+use rules::rows::Deposit;
+use tables::find_row;
+use tables::put_row;
+use tables::take_out;
+ghost use mathlib.Core.Path.{_≡_};
+ghost use Rattle.rules.specs.declared.calls.Call.{Call};
+ghost use Rattle.rules.specs.Replies.{told, plain};
+ghost use Rattle.rules.specs.Answer.{answer, replyNumber, bookOf, outcomeOf};
+ghost use Rattle.tables.specs.Rows.{placeOf};
+ghost use Rattle.inbox.specs.After.{rowOf, isGap, passesCeiling, CanDeposit, CanClaim, depositedDesk, claimedDesk};
+
+// Deposit (number, asset, amount, member): added at the end of the inbox.
+pub fn deposit(d: Desk, inbox: &mut [u64], outbox: &[u64], history: &[u64], x: Deposit) -> Answered
+    ensures { λ r. ⌜ outcomeOf r (now (inbox .exit)) (now (outbox .entry)) (now (history .entry)) ≡ answer (bookOf d (now (inbox .entry)) (now (outbox .entry)) (now (history .entry))) (Call.Deposit x) ⌝ }
+{
+    let reply = deposit_reply(d, inbox, outbox, history, x);
+    if !is_done(reply) {
+        return Answered {
+            answer: reply,
+            desk: d,
+        };
+    }
+    let at = d.unclaimed * 4;
+    let number = x.number;
+    let row = [number.0, x.asset, x.amount, x.member];
+    put_row(inbox, at, &row);
+    let desk = deposited(d, x);
+    Answered {
+        answer: reply,
+        desk,
+    }
+}
+
+// The deposit's table of refusals, the largest number first.
+fn deposit_reply(d: Desk, inbox: &[u64], outbox: &[u64], history: &[u64], x: Deposit) -> Answer
+    ensures { λ r. ⌜ told r ≡ plain (replyNumber (bookOf d (now (inbox .entry)) (now (outbox .entry)) (now (history .entry))) (Call.Deposit x)) ⌝ }
+{
+    let last = d.last;
+    let number = x.number;
+    let r = refuse(64 <= d.unclaimed, Refusal::InboxFull, Answer::Done);
+    let r = refuse(
+        passes_ceiling(of_eight(&d.lifetime, x.asset), x.amount),
+        Refusal::Ceiling,
+        r,
+    );
+    let r = refuse(is_gap(last.0, number.0), Refusal::Gap, r);
+    let r = refuse(number.0 <= last.0, Refusal::Old, r);
+    let r = refuse(!is_amount(x.amount), Refusal::BadAmount, r);
+    let r = refuse(!is_asset(x.asset), Refusal::BadAsset, r);
+    let r = refuse(!is_member(x.member), Refusal::BadMember, r);
+    refuse(!in_frame(d, inbox, outbox, history), Refusal::BadBook, r)
+}
+
+// Whether a deposit number lies above last + 1 or above 4,294,967,295, on any two numbers.
+fn is_gap(last: u64, number: u64) -> bool
+    ensures { λ r. ⌜ r ≡ isGap last number ⌝ }
+{
+    if number <= last {
+        return 4294967295 < number;
+    }
+    (1 < number - last) | (4294967295 < number)
+}
+
+// Whether a total with the amount would pass the ceiling, on any two numbers.
+fn passes_ceiling(total: u64, amount: u64) -> bool
+    ensures { λ r. ⌜ r ≡ passesCeiling total amount ⌝ }
+{
+    if 1000000000000000 < amount {
+        return true;
+    }
+    1000000000000000 - amount < total
+}
+
+// The number is used up, the asset's lifetime deposits grow, and one deposit more is unclaimed.
+fn deposited(d: Desk, x: Deposit) -> Desk
+    requires { ⌜ CanDeposit d x ⌝ }
+    ensures { λ r. ⌜ r ≡ depositedDesk d x ⌝ }
+{
+    let more = of_eight(&d.lifetime, x.asset) + x.amount;
+    let mut next = with_lifetime(d, x.asset, more);
+    let number = x.number;
+    next.last = number;
+    next.unclaimed = d.unclaimed + 1;
+    next
+}
+
+// Claim (member, number, asset, amount): the unclaimed deposit with exactly these four leaves the
+// inbox, the rest keeping their order, and the balance grows.
+pub fn claim(
+    d: Desk,
+    inbox: &mut [u64],
+    outbox: &[u64],
+    history: &mut [u64],
+    c: ClaimFields,
+) -> Answered
+    ensures { λ r. ⌜ outcomeOf r (now (inbox .exit)) (now (outbox .entry)) (now (history .exit)) ≡ answer (bookOf d (now (inbox .entry)) (now (outbox .entry)) (now (history .entry))) (Call.Claim c) ⌝ }
+{
+    let number = c.number;
+    let row = [number.0, c.asset, c.amount, c.member];
+    let place = find_row(inbox, d.unclaimed, &row);
+    let answer = claim_reply(d, inbox, outbox, history, c, place);
+    if !is_done(answer) {
+        return Answered { answer, desk: d };
+    }
+    take_out(inbox, 4, place, d.unclaimed);
+    let at = d.records * 5;
+    let entry = [1, c.asset, c.amount, c.member, number.0];
+    put_row(history, at, &entry);
+    let desk = claimed(d, c);
+    Answered { answer, desk }
+}
+
+// The claim's table of refusals, the largest number first. No unclaimed deposit matches where its
+// place is past the last.
+fn claim_reply(
+    d: Desk,
+    inbox: &[u64],
+    outbox: &[u64],
+    history: &[u64],
+    c: ClaimFields,
+    place: usize,
+) -> Answer
+    requires { ⌜ place ≡ placeOf (rowOf c) (d .unclaimed) (now inbox) ⌝ }
+    ensures { λ r. ⌜ told r ≡ plain (replyNumber (bookOf d (now (inbox .entry)) (now (outbox .entry)) (now (history .entry))) (Call.Claim c)) ⌝ }
+{
+    let r = refuse(1024 <= d.records, Refusal::HistoryFull, Answer::Done);
+    let r = refuse(place == d.unclaimed, Refusal::NoSuchDeposit, r);
+    let r = refuse(!is_amount(c.amount), Refusal::BadAmount, r);
+    let r = refuse(!is_asset(c.asset), Refusal::BadAsset, r);
+    let r = refuse(!is_member(c.member), Refusal::BadMember, r);
+    refuse(!in_frame(d, inbox, outbox, history), Refusal::BadBook, r)
+}
+
+// The balance grows, one deposit fewer is unclaimed, and there is one record more.
+fn claimed(d: Desk, c: ClaimFields) -> Desk
+    requires { ⌜ CanClaim d c ⌝ }
+    ensures { λ r. ⌜ r ≡ claimedDesk d c ⌝ }
+{
+    let more = balance_of(&d.balances, c.member, c.asset) + c.amount;
+    let mut next = with_balance(d, c.member, c.asset, more);
+    next.unclaimed = d.unclaimed - 1;
+    next.records = d.records + 1;
+    next
+}

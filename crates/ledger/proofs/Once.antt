@@ -1,0 +1,24 @@
+-- Any two results that a call's contract allows coincide: the answer, the desk, and every number of the three tables.
+use mathlib.Core.Path.{_≡_}
+use mathlib.Core.List.{List}
+use Prim.Native.Nat.{ℕ}
+use Rattle.rules.specs.declared.calls.Call.{Call}
+use Rattle.rules.specs.declared.calls.GrantFields.{GrantFields}
+use Rattle.rules.specs.declared.calls.SignFields.{SignFields}
+use Rattle.rules.specs.declared.calls.TransferFields.{TransferFields}
+use Rattle.rules.specs.declared.answers.Answered.{Answered}
+use Rattle.rules.specs.State.{Book}
+use Rattle.rules.specs.Answer.{answer, outcomeOf}
+use Rattle.rules.proofs.Told.{outcome-once}
+
+pub transfer-once : (b : Book) (x : TransferFields) (r r′ : Answered) (i i′ o o′ h h′ : List ℕ) → outcomeOf r i o h ≡ answer b (Call.Transfer x) → outcomeOf r′ i′ o′ h′ ≡ answer b (Call.Transfer x)
+    → (r ≡ r′) × (i ≡ i′) × (o ≡ o′) × (h ≡ h′)
+transfer-once b x = outcome-once (answer b (Call.Transfer x))
+
+pub grant-once : (b : Book) (x : GrantFields) (r r′ : Answered) (i i′ o o′ h h′ : List ℕ) → outcomeOf r i o h ≡ answer b (Call.Grant x) → outcomeOf r′ i′ o′ h′ ≡ answer b (Call.Grant x)
+    → (r ≡ r′) × (i ≡ i′) × (o ≡ o′) × (h ≡ h′)
+grant-once b x = outcome-once (answer b (Call.Grant x))
+
+pub sign-once : (b : Book) (x : SignFields) (r r′ : Answered) (i i′ o o′ h h′ : List ℕ) → outcomeOf r i o h ≡ answer b (Call.Sign x) → outcomeOf r′ i′ o′ h′ ≡ answer b (Call.Sign x)
+    → (r ≡ r′) × (i ≡ i′) × (o ≡ o′) × (h ≡ h′)
+sign-once b x = outcome-once (answer b (Call.Sign x))
