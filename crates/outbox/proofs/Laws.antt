@@ -1,0 +1,343 @@
+-- What withdraw, send and settle refuse, as the code's chain; and what a done one lays back.
+use Prim.Native.Nat.{ℕ, zero, suc, _+_, _-_, _*_, _≤_, _<_}
+use mathlib.Core.Path.{_≡_, refl, sym, ap, _∙_}
+use mathlib.Core.Bool.{Bool, true, false, not, _&&_, _||_}
+use mathlib.Core.List.{List, [], _∷_, _++_, append-assoc}
+use native.Mathlib.Nat.{add-zero}
+use native.Mathlib.Omega.{arith}
+use lib.Dec.{leb, ltb, eqb}
+use lib.ListN.{length, getD, take, drop, length-append, length-drop, take-append-drop}
+use lib.Seq.{getD-take, getD-drop, drop-append-le, length-take-le}
+use borrow.Author.Tests.{leb-true, leb-false, le-leb, eqb-false, eq-eqb, ne-eqb, lt-ltb}
+use Rattle.rules.specs.declared.desk.Desk.{Desk}
+use Rattle.rules.specs.declared.rows.Nonce.{Nonce}
+use Rattle.rules.specs.declared.rows.Payment.{Payment}
+use Rattle.rules.specs.declared.calls.Call.{Call}
+use Rattle.rules.specs.declared.calls.WithdrawalFields.{WithdrawalFields}
+use Rattle.rules.specs.declared.answers.Refusal.{Refusal}
+use Rattle.rules.specs.Limits.{ceiling, outboxRows, isMember, isAsset, isAmount, isPayee}
+use Rattle.rules.specs.Lists.{all}
+use Rattle.rules.specs.Tables.{Edit, rowsOf, lay, edited, editedTable, HasRoom, paymentShape, recordShape}
+use Rattle.rules.specs.State.{Book, view, laid, deskOf, outboxOf, historyOf, payments}
+use Rattle.rules.specs.Replies.{numberOf, told, plain}
+use Rattle.rules.specs.Refusals.{refusals, full}
+use Rattle.rules.specs.Effects.{balance, debit, total, raised, oldest, paymentOf, withdrawn, sent, settledOne, effect, balancesAfter, holdersAfter, inboxEdit, outsideAfter, recordsOf}
+use Rattle.rules.specs.Frame.{hasRows, upToCeiling, paymentInLimits, noncesRise, inFrame}
+use Rattle.rules.specs.Answer.{frameTest, replyNumber, bookOf}
+use Rattle.rules.proofs.Laying.{length-rows, take-rows, drop-rows, lay-edited}
+use Rattle.rules.proofs.Shapes.{paymentSound}
+use Rattle.rules.proofs.Facts.{Accepted, WithdrawalFit, SendFit, SettleFit}
+use Rattle.rules.proofs.Tests.{both, both-of, within-true, true-within, all-at}
+use Rattle.rules.proofs.Accepts.{fit, accepted-frame}
+use Rattle.tables.specs.Rows.{putAt, takenOut}
+use Rattle.desk.specs.Kept.{balanceKept, settledKept}
+use Rattle.desk.specs.Parts.{ofEight, countsFrame, listsFrame, inboxFrame, outboxFrame}
+use Rattle.desk.proofs.Frames.{frame-parts}
+use Rattle.desk.proofs.Chains.{Entry, chain, notBelow, chain-told}
+use Rattle.desk.proofs.Books.{Framed, framed, inbox-kept, outbox-kept, record-added, history-kept, payments-are, inbox-count, outbox-count, flight-count, history-count}
+use Rattle.outbox.specs.After.{paymentAt, withCounts, withdrawnDesk, sentDesk, settledDesk, CanWithdraw, CanSettle}
+
+-- ---- the numbers of a row
+-- the first row of a part is the payment whose numbers lie from there on
+pub oldest-row : (n at : ℕ) (t : List ℕ) → 1 ≤ n → oldest (rowsOf paymentShape n (drop at t)) ≡ paymentAt t at
+unfolding oldest rowsOf
+oldest-row zero at t h = absurd (omega arith)
+oldest-row (suc n) at t h =
+    rw (
+      getD-take 4 (drop at t) 0 0 (omega arith),
+      getD-take 4 (drop at t) 1 0 (omega arith),
+      getD-take 4 (drop at t) 2 0 (omega arith),
+      getD-take 4 (drop at t) 3 0 (omega arith),
+      getD-drop at t 0 0,
+      getD-drop at t 1 0,
+      getD-drop at t 2 0,
+      getD-drop at t 3 0,
+      add-zero at,
+    )
+
+module _ (b : Book) (f : Framed b) where
+  -- the oldest payment in flight is the first row of the outbox
+  pub flight-row : 1 ≤ b .desk .inflight → oldest (view b .outside .inflight) ≡ paymentAt (b .outbox) 0
+  unfolding view
+  flight-row h = rw (take-rows paymentShape (b .desk .payments) (b .desk .inflight) (b .outbox) (f .inflight)) (oldest-row (b .desk .inflight) 0 (b .outbox) h)
+
+  -- the oldest that waits is the row after those in flight
+  pub waiting-row : b .desk .inflight < b .desk .payments → oldest (view b .outside .waiting) ≡ paymentAt (b .outbox) (b .desk .inflight * 4)
+  unfolding view
+  waiting-row h =
+      rw (drop-rows paymentShape (b .desk .payments) (b .desk .inflight) (b .outbox) (f .inflight))
+      (oldest-row (b .desk .payments - b .desk .inflight) (b .desk .inflight * 4) (b .outbox) (omega arith))
+
+-- ---- the tables of refusals
+abbrev pub withdrawEntries : Book → WithdrawalFields → List Entry
+withdrawEntries b w =
+    (Refusal.BadBook, not (inFrame b))
+    ∷ (Refusal.BadMember, not (isMember (w .member)))
+    ∷ (Refusal.BadAsset, not (isAsset (w .asset)))
+    ∷ (Refusal.BadAmount, not (isAmount (w .amount)))
+    ∷ (Refusal.BadPayee, not (isPayee (w .payee)))
+    ∷ (Refusal.Short, ltb (balance (b .desk .balances) (w .member) (w .asset)) (w .amount))
+    ∷ (Refusal.OutboxFull, leb 32 (b .desk .payments))
+    ∷ (Refusal.HistoryFull, leb 1024 (b .desk .records))
+    ∷ []
+
+-- how many payments there are, on any book
+payments-count : (b : Book) → length (payments (view b .outside)) ≡ b .desk .payments
+unfolding view
+payments-count b = rw (take-append-drop (b .desk .inflight) (outboxOf b)) (length-rows paymentShape (b .desk .payments) (b .outbox))
+
+pub withdraw-told : (b : Book) (w : WithdrawalFields) → told (chain (withdrawEntries b w)) ≡ plain (replyNumber b (Call.Withdraw w))
+unfolding replyNumber frameTest refusals full numberOf notBelow all view
+withdraw-told b w =
+    rw (payments-count b, length-rows recordShape (b .desk .records) (b .history)) (chain-told (withdrawEntries b w) refl)
+
+-- how many wait, on any book
+waiting-count : (b : Book) → length (view b .outside .waiting) ≡ b .desk .payments - b .desk .inflight
+unfolding view
+waiting-count b = length-drop (b .desk .inflight) (outboxOf b) ∙ ap (λ (n : ℕ). n - b .desk .inflight) (length-rows paymentShape (b .desk .payments) (b .outbox))
+
+-- nothing is left of n after k exactly if n is at most k
+none-left : (n k : ℕ) → eqb (n - k) 0 ≡ leb n k
+none-left n k = go (leb n k) refl
+  where
+    go : (p : Bool) → leb n k ≡ p → eqb (n - k) 0 ≡ p
+    go true e = let h : n ≤ k = leb-true n k e in eq-eqb (n - k) 0 (omega arith)
+    go false e = let h : k < n = leb-false n k e in ne-eqb (n - k) 0 (λ z. omega arith)
+
+-- a call with one refusal of its own
+abbrev pub oneEntry : Book → Refusal → Bool → List Entry
+oneEntry b r applies = (Refusal.BadBook, not (inFrame b)) ∷ (r, applies) ∷ []
+
+pub send-told : (b : Book) → told (chain (oneEntry b Refusal.NothingWaiting (leb (b .desk .payments) (b .desk .inflight)))) ≡ plain (replyNumber b Call.Send)
+unfolding replyNumber frameTest refusals numberOf notBelow all
+send-told b =
+    rw (← none-left (b .desk .payments) (b .desk .inflight), ← waiting-count b)
+    (chain-told (oneEntry b Refusal.NothingWaiting (eqb (length (view b .outside .waiting)) 0)) refl)
+
+-- BadBook stands first, so two tests behind it that agree in frame tell the same
+in-frame-alone : (b : Book) (r : Refusal) (p q : Bool) → (inFrame b ≡ true → p ≡ q) → chain (oneEntry b r p) ≡ chain (oneEntry b r q)
+in-frame-alone b r p q h = go (inFrame b) refl
+  where
+    go : (t : Bool) → inFrame b ≡ t → chain (oneEntry b r p) ≡ chain (oneEntry b r q)
+    go true e = rw (h e)
+    go false e = rw e
+
+-- nothing is in flight, or the first row has another nonce
+abbrev pub notNext : Book → Nonce → Bool
+notNext b n = eqb (b .desk .inflight) 0 || not (eqb (getD (b .outbox) 3 0) (n .0))
+
+-- in frame this is what the rules ask of the oldest in flight
+not-next : (b : Book) (n : Nonce) → Framed b
+    → notNext b n ≡ eqb (length (view b .outside .inflight)) 0 || not (eqb (oldest (view b .outside .inflight) .nonce .0) (n .0))
+not-next b n f = rw (flight-count b f) (go (eqb (b .desk .inflight) 0) refl)
+  where
+    go : (t : Bool) → eqb (b .desk .inflight) 0 ≡ t
+        → notNext b n ≡ eqb (b .desk .inflight) 0 || not (eqb (oldest (view b .outside .inflight) .nonce .0) (n .0))
+    go true e = rw e
+    go false e = rw (flight-row b f (omega (arith, eqb-false (b .desk .inflight) 0 e)))
+
+pub settle-told : (b : Book) (n : Nonce) → told (chain (oneEntry b Refusal.NotNext (notNext b n))) ≡ plain (replyNumber b (Call.Settle n))
+unfolding replyNumber frameTest refusals numberOf notBelow all
+settle-told b n =
+    let other : Bool = eqb (length (view b .outside .inflight)) 0 || not (eqb (oldest (view b .outside .inflight) .nonce .0) (n .0)) in
+    ap told (in-frame-alone b Refusal.NotNext (notNext b n) other (λ e. not-next b n (framed b e))) ∙ chain-told (oneEntry b Refusal.NotNext other) refl
+
+-- ---- what makes it safe
+pub can-withdraw : (b : Book) (w : WithdrawalFields) → Accepted b (Call.Withdraw w) → CanWithdraw (b .desk) w
+unfolding view
+can-withdraw b w a =
+    let f : Framed b = framed b (accepted-frame b (Call.Withdraw w) a) in
+    let q : WithdrawalFit (view b) w = fit b (Call.Withdraw w) a in
+    let l : length (historyOf b) ≡ b .desk .records = length-rows recordShape (b .desk .records) (b .history) in
+    record {
+      member = q .member;
+      asset = q .asset;
+      enough = q .enough;
+      next = f .next;
+      payments = omega (arith, q .queue, payments-count b);
+      records = omega (arith, q .room);
+    }
+
+-- some payment waits
+pub can-send : (b : Book) → Accepted b Call.Send → b .desk .inflight < b .desk .payments
+can-send b a =
+    let q : SendFit (view b) = fit b Call.Send a in
+    omega (arith, q .some, waiting-count b)
+
+-- some payment is in flight
+pub some-flies : (b : Book) (n : Nonce) → Accepted b (Call.Settle n) → 1 ≤ b .desk .inflight
+some-flies b n a =
+    let f : Framed b = framed b (accepted-frame b (Call.Settle n) a) in
+    let q : SettleFit (view b) n = fit b (Call.Settle n) a in
+    omega (arith, q .some, flight-count b f)
+
+-- the rows of an outbox in frame are within their limits
+limits : (b : Book) → inFrame b ≡ true → all paymentInLimits (outboxOf b) ≡ true
+unfolding outboxFrame
+limits b h =
+    let rise : Bool = noncesRise (b .desk .next .0) (outboxOf b) in
+    let low : Bool = all paymentInLimits (outboxOf b) in
+    let outbox : Bool = outboxFrame (b .outbox) (b .desk .payments) (b .desk .next .0) in
+    let inbox : Bool = inboxFrame (b .inbox) (b .desk .unclaimed) (b .desk .last .0) in
+    let (x, r) = both (countsFrame (b .desk) (length (b .history))) (listsFrame (b .desk) && (inbox && outbox)) (sym (frame-parts b) ∙ h) in
+    let (y, s) = both (listsFrame (b .desk)) (inbox && outbox) r in
+    let (z, o) = both inbox outbox s in
+    let (u, p) = both (hasRows paymentShape outboxRows (b .outbox)) (leb (b .desk .payments) outboxRows && (low && rise)) o in
+    let (v, q) = both (leb (b .desk .payments) outboxRows) (low && rise) p in
+    both low rise q .0
+
+-- of some payments that all pass a test the oldest does
+oldest-passes : (p : Payment → Bool) (ps : List Payment) → 1 ≤ length ps → all p ps ≡ true → p (oldest ps) ≡ true
+unfolding oldest all
+oldest-passes p [] h e = absurd (omega arith)
+oldest-passes p (x ∷ ps) h e = both (p x) (all p ps) e .0
+
+-- so the first row is
+row-limits : (b : Book) → inFrame b ≡ true → 1 ≤ b .desk .payments → paymentInLimits (paymentAt (b .outbox) 0) ≡ true
+row-limits b h s =
+    ap paymentInLimits (sym (oldest-row (b .desk .payments) 0 (b .outbox) s))
+    ∙ oldest-passes paymentInLimits (outboxOf b) (rw (length-rows paymentShape (b .desk .payments) (b .outbox)) s) (limits b h)
+
+pub can-settle : (b : Book) (n : Nonce) → Accepted b (Call.Settle n) → CanSettle (b .desk) (paymentAt (b .outbox) 0)
+can-settle b n a =
+    let e : inFrame b ≡ true = accepted-frame b (Call.Settle n) a in
+    let f : Framed b = framed b e in
+    let s : 1 ≤ b .desk .inflight = some-flies b n a in
+    let p : Payment = paymentAt (b .outbox) 0 in
+    let (x, r) = both (isAsset (p .asset)) (isAmount (p .amount) && isPayee (p .payee)) (row-limits b e (omega arith)) in
+    let (y, z) = both (isAmount (p .amount)) (isPayee (p .payee)) r in
+    record {
+      asset = within-true 1 8 (p .asset) x;
+      amount = within-true 1 ceiling (p .amount) y .high;
+      settled = f .settled;
+      payments = f .payments;
+      inflight = f .inflight;
+      some = s;
+    }
+
+-- ---- what is laid back into the outbox: with one row more, as it was, or with the first taken out
+module _ (b : Book) (f : Framed b) where
+  pub payment-added : (p : Payment) → b .desk .payments < 32
+      → lay paymentShape (view b .outside .inflight ++ (view b .outside .waiting ++ (p ∷ []))) (b .desk .payments) (b .outbox)
+      ≡ putAt (b .desk .payments * 4) (paymentShape .flat p) (b .outbox)
+  unfolding edited editedTable HasRoom putAt
+  payment-added p h =
+      let e : suc (b .desk .payments) * 4 ≡ b .desk .payments * 4 + 4 = omega arith in
+      rw (
+        ← append-assoc (view b .outside .inflight) (view b .outside .waiting) (p ∷ []),
+        payments-are b f,
+        le-leb (b .desk .payments * 4 + 4) (length (b .outbox)) (omega arith),
+      )
+      (lay-edited paymentShape paymentSound (Edit.add p) (b .desk .payments) (b .outbox) (omega arith))
+
+  pub added-count : (p : Payment) → length (view b .outside .inflight ++ (view b .outside .waiting ++ (p ∷ []))) ≡ b .desk .payments + 1
+  added-count p =
+      rw (← append-assoc (view b .outside .inflight) (view b .outside .waiting) (p ∷ []))
+      (length-append (payments (view b .outside)) (p ∷ []) ∙ ap (λ (n : ℕ). n + 1) (outbox-count b f))
+
+  -- one more is in flight, and the rows are the same
+  pub sent-same : (view b .outside .inflight ++ take 1 (view b .outside .waiting)) ++ drop 1 (view b .outside .waiting) ≡ payments (view b .outside)
+  sent-same =
+      append-assoc (view b .outside .inflight) (take 1 (view b .outside .waiting)) (drop 1 (view b .outside .waiting))
+      ∙ ap (λ (r : List Payment). view b .outside .inflight ++ r) (take-append-drop 1 (view b .outside .waiting))
+
+  pub sent-count : b .desk .inflight < b .desk .payments → length (view b .outside .inflight ++ take 1 (view b .outside .waiting)) ≡ b .desk .inflight + 1
+  sent-count h =
+      let w : length (view b .outside .waiting) ≡ b .desk .payments - b .desk .inflight = waiting-count b in
+      let l : length (take 1 (view b .outside .waiting)) ≡ 1 = length-take-le 1 (view b .outside .waiting) (omega arith) in
+      length-append (view b .outside .inflight) (take 1 (view b .outside .waiting)) ∙ rw (flight-count b f, l)
+
+  -- the first in flight is the first row
+  rest-are : 1 ≤ b .desk .inflight → drop 1 (view b .outside .inflight) ++ view b .outside .waiting ≡ drop 1 (outboxOf b)
+  rest-are h =
+      let l : length (view b .outside .inflight) ≡ b .desk .inflight = flight-count b f in
+      sym (drop-append-le 1 (view b .outside .inflight) (view b .outside .waiting) (omega arith)) ∙ ap (drop 1) (payments-are b f)
+
+  pub payment-taken : 1 ≤ b .desk .inflight
+      → lay paymentShape (drop 1 (view b .outside .inflight) ++ view b .outside .waiting) (b .desk .payments) (b .outbox) ≡ takenOut 4 0 (b .desk .payments) (b .outbox)
+  unfolding edited editedTable HasRoom takenOut
+  payment-taken h =
+      let s : 0 < b .desk .payments = omega arith in
+      rw (rest-are h, le-leb (b .desk .payments * 4) (length (b .outbox)) (omega arith), lt-ltb 0 (b .desk .payments) s)
+      (lay-edited paymentShape paymentSound (Edit.takeOut 0) (b .desk .payments) (b .outbox) (omega arith))
+
+  pub taken-count : 1 ≤ b .desk .inflight → length (drop 1 (view b .outside .inflight) ++ view b .outside .waiting) ≡ b .desk .payments - 1
+  taken-count h = rw (rest-are h) (length-drop 1 (outboxOf b) ∙ ap (λ (n : ℕ). n - 1) (length-rows paymentShape (b .desk .payments) (b .outbox)))
+
+  pub fewer-fly : length (drop 1 (view b .outside .inflight)) ≡ b .desk .inflight - 1
+  fewer-fly = length-drop 1 (view b .outside .inflight) ∙ ap (λ (n : ℕ). n - 1) (flight-count b f)
+
+  -- a call that writes no record leaves as many
+  pub no-record : length (historyOf b ++ []) ≡ b .desk .records
+  no-record = history-count b f [] ∙ add-zero (b .desk .records)
+
+-- ---- what is laid
+pub withdraw-laid : (b : Book) (w : WithdrawalFields) → Framed b → CanWithdraw (b .desk) w
+    → bookOf (withdrawnDesk (b .desk) w) (b .inbox)
+    (putAt (b .desk .payments * 4) (w .asset ∷ w .amount ∷ w .payee ∷ b .desk .next .0 ∷ []) (b .outbox))
+    (putAt (b .desk .records * 5) (3 ∷ w .asset ∷ w .amount ∷ w .member ∷ w .payee ∷ []) (b .history))
+    ≡ laid (effect (Call.Withdraw w) (view b)) b
+unfolding laid deskOf effect balancesAfter holdersAfter inboxEdit edited outsideAfter withdrawn recordsOf withdrawnDesk view
+withdraw-laid b w f h =
+    rw (
+      inbox-kept b f,
+      payment-added b f (paymentOf w (b .desk .next)) (h .payments),
+      record-added b f (record { kind = 3; asset = w .asset; amount = w .amount; first = w .member; second = w .payee }) (h .records),
+      inbox-count b f,
+      added-count b f (paymentOf w (b .desk .next)),
+      flight-count b f,
+      history-count b f (record { kind = 3; asset = w .asset; amount = w .amount; first = w .member; second = w .payee } ∷ []),
+    )
+
+pub send-laid : (b : Book) → Framed b → b .desk .inflight < b .desk .payments
+    → bookOf (sentDesk (b .desk)) (b .inbox) (b .outbox) (b .history) ≡ laid (effect Call.Send (view b)) b
+unfolding laid deskOf effect balancesAfter holdersAfter inboxEdit edited outsideAfter sent recordsOf view
+send-laid b f h =
+    rw (
+      sent-same b f,
+      inbox-kept b f,
+      outbox-kept b f,
+      history-kept b f,
+      inbox-count b f,
+      outbox-count b f,
+      sent-count b f h,
+      no-record b f,
+    )
+
+pub settle-laid : (b : Book) (n : Nonce) → Framed b → 1 ≤ b .desk .inflight
+    → bookOf (settledDesk (b .desk) (paymentAt (b .outbox) 0)) (b .inbox) (takenOut 4 0 (b .desk .payments) (b .outbox)) (b .history)
+    ≡ laid (effect (Call.Settle n) (view b)) b
+unfolding laid deskOf effect balancesAfter holdersAfter inboxEdit edited outsideAfter settledOne recordsOf settledDesk view
+settle-laid b n f h =
+    rw (
+      flight-row b f h,
+      inbox-kept b f,
+      payment-taken b f h,
+      history-kept b f,
+      inbox-count b f,
+      taken-count b f h,
+      fewer-fly b f,
+      no-record b f,
+    )
+
+-- ---- the steps of a withdrawal and of a settlement
+pub withdrawn-is : (d : Desk) (w : WithdrawalFields) → CanWithdraw d w
+    → (let kept = balanceKept d (w .member) (w .asset) (balance (d .balances) (w .member) (w .asset) - w .amount) in
+    withCounts kept (record { 0 = d .next .0 + 1 }) (d .payments + 1) (kept .inflight) (d .records + 1))
+    ≡ withdrawnDesk d w
+unfolding balanceKept withdrawnDesk debit
+withdrawn-is d w c =
+    rw (both-of (isMember (w .member)) (isAsset (w .asset)) (true-within 1 16 (w .member) (c .member)) (true-within 1 8 (w .asset) (c .asset)))
+
+-- no settled total is above the ceiling
+pub settled-low : (d : Desk) (p : Payment) → CanSettle d p → ofEight (d .settled) (p .asset) ≤ ceiling
+settled-low d p c =
+    rw (true-within 1 8 (p .asset) (c .asset))
+    (leb-true (getD (d .settled) (p .asset - 1) 0) ceiling (all-at upToCeiling (d .settled) (p .asset - 1) 0 refl (c .settled)))
+
+pub settled-is : (d : Desk) (p : Payment) → CanSettle d p
+    → (let kept = settledKept d (p .asset) (ofEight (d .settled) (p .asset) + p .amount) in
+    withCounts kept (kept .next) (d .payments - 1) (d .inflight - 1) (kept .records))
+    ≡ settledDesk d p
+unfolding settledKept settledDesk raised total
+settled-is d p c = rw (true-within 1 8 (p .asset) (c .asset))

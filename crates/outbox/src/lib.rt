@@ -1,0 +1,209 @@
+// The outbox: withdraw, send and settle. Each is lent all three tables, tests the whole frame, and
+// says in one equation what it answers and what it leaves of the desk and every row.
+use desk::answers::is_done;
+use desk::answers::refuse;
+use desk::fields::balance_of;
+use desk::fields::is_amount;
+use desk::fields::is_asset;
+use desk::fields::is_member;
+use desk::fields::is_payee;
+use desk::fields::of_eight;
+use desk::frame::in_frame;
+use desk::keep::with_balance;
+use desk::keep::with_settled;
+use rules::answers::Answer;
+use rules::answers::Answered;
+use rules::answers::Refusal;
+use rules::calls::WithdrawalFields;
+use rules::desk::Desk;
+use rules::rows::Nonce;
+use rules::rows::Payment;
+use tables::put_row;
+use tables::take_out;
+ghost use mathlib.Core.Path.{_≡_};
+ghost use Prim.Native.Nat.{_≤_};
+ghost use lib.ListN.{getD};
+ghost use Rattle.rules.specs.declared.calls.Call.{Call};
+ghost use Rattle.rules.specs.Replies.{told, plain};
+ghost use Rattle.rules.specs.Answer.{answer, replyNumber, bookOf, outcomeOf};
+ghost use Rattle.outbox.specs.After.{CanWithdraw, CanSettle, paymentAt, withdrawnDesk, settledDesk};
+
+// Withdraw (member, asset, amount, payee): "asset, amount, payee and the next nonce join the end of
+// the outbox". The answer carries no nonce, and the row no member.
+pub fn withdraw(
+    d: Desk,
+    inbox: &[u64],
+    outbox: &mut [u64],
+    history: &mut [u64],
+    w: WithdrawalFields,
+) -> Answered
+    ensures { λ r. ⌜ outcomeOf r (now (inbox .entry)) (now (outbox .exit)) (now (history .exit)) ≡ answer (bookOf d (now (inbox .entry)) (now (outbox .entry)) (now (history .entry))) (Call.Withdraw w) ⌝ }
+{
+    let reply = withdraw_reply(d, inbox, outbox, history, w);
+    if !is_done(reply) {
+        return Answered {
+            answer: reply,
+            desk: d,
+        };
+    }
+    let nonce = d.next;
+    let queued = d.payments * 4;
+    let payment = [w.asset, w.amount, w.payee, nonce.0];
+    put_row(outbox, queued, &payment);
+    let at = d.records * 5;
+    let row = [3, w.asset, w.amount, w.member, w.payee];
+    put_row(history, at, &row);
+    let desk = withdrawn(d, w);
+    Answered {
+        answer: reply,
+        desk,
+    }
+}
+
+// The withdrawal's table of refusals, the largest number first.
+fn withdraw_reply(
+    d: Desk,
+    inbox: &[u64],
+    outbox: &[u64],
+    history: &[u64],
+    w: WithdrawalFields,
+) -> Answer
+    ensures { λ r. ⌜ told r ≡ plain (replyNumber (bookOf d (now (inbox .entry)) (now (outbox .entry)) (now (history .entry))) (Call.Withdraw w)) ⌝ }
+{
+    let r = refuse(1024 <= d.records, Refusal::HistoryFull, Answer::Done);
+    let r = refuse(32 <= d.payments, Refusal::OutboxFull, r);
+    let r = refuse(
+        balance_of(&d.balances, w.member, w.asset) < w.amount,
+        Refusal::Short,
+        r,
+    );
+    let r = refuse(!is_payee(w.payee), Refusal::BadPayee, r);
+    let r = refuse(!is_amount(w.amount), Refusal::BadAmount, r);
+    let r = refuse(!is_asset(w.asset), Refusal::BadAsset, r);
+    let r = refuse(!is_member(w.member), Refusal::BadMember, r);
+    refuse(!in_frame(d, inbox, outbox, history), Refusal::BadBook, r)
+}
+
+// The balance falls, "the next nonce rises by 1", and there is one payment and one record more.
+fn withdrawn(d: Desk, w: WithdrawalFields) -> Desk
+    requires { ⌜ CanWithdraw d w ⌝ }
+    ensures { λ r. ⌜ r ≡ withdrawnDesk d w ⌝ }
+{
+    let held = balance_of(&d.balances, w.member, w.asset);
+    let less = held - w.amount;
+    let mut after = with_balance(d, w.member, w.asset, less);
+    let given = d.next;
+    let number = given.0 + 1;
+    let next = Nonce(number);
+    after.next = next;
+    after.payments = d.payments + 1;
+    after.records = d.records + 1;
+    after
+}
+
+// Send: "the oldest waiting payment becomes in flight; the answer gives nonce, asset, amount, payee.
+// It keeps its outbox row." So no table is lent to be written.
+pub fn send(d: Desk, inbox: &[u64], outbox: &[u64], history: &[u64]) -> Answered
+    ensures { λ r. ⌜ outcomeOf r (now (inbox .entry)) (now (outbox .entry)) (now (history .entry)) ≡ answer (bookOf d (now (inbox .entry)) (now (outbox .entry)) (now (history .entry))) Call.Send ⌝ }
+{
+    let found = send_reply(d, inbox, outbox, history);
+    if !is_done(found) {
+        return Answered {
+            answer: found,
+            desk: d,
+        };
+    }
+    let at = d.inflight * 4;
+    let payment = payment_at(outbox, at);
+    let sent = Answer::Sent(payment);
+    let mut after = d;
+    after.inflight = d.inflight + 1;
+    Answered {
+        answer: sent,
+        desk: after,
+    }
+}
+
+// The send's table of refusals. The rows past those in flight wait.
+fn send_reply(d: Desk, inbox: &[u64], outbox: &[u64], history: &[u64]) -> Answer
+    ensures { λ r. ⌜ told r ≡ plain (replyNumber (bookOf d (now (inbox .entry)) (now (outbox .entry)) (now (history .entry))) Call.Send) ⌝ }
+{
+    let r = refuse(
+        d.payments <= d.inflight,
+        Refusal::NothingWaiting,
+        Answer::Done,
+    );
+    refuse(!in_frame(d, inbox, outbox, history), Refusal::BadBook, r)
+}
+
+// Settle (nonce): the oldest payment in flight "leaves the outbox and the asset's settled total
+// grows". A nonce is asked for, so no deposit number can be settled.
+pub fn settle(d: Desk, inbox: &[u64], outbox: &mut [u64], history: &[u64], n: Nonce) -> Answered
+    ensures { λ r. ⌜ outcomeOf r (now (inbox .entry)) (now (outbox .exit)) (now (history .entry)) ≡ answer (bookOf d (now (inbox .entry)) (now (outbox .entry)) (now (history .entry))) (Call.Settle n) ⌝ }
+{
+    let verdict = settle_reply(d, inbox, outbox, history, n);
+    if !is_done(verdict) {
+        return Answered {
+            answer: verdict,
+            desk: d,
+        };
+    }
+    let payment = payment_at(outbox, 0);
+    take_out(outbox, 4, 0, d.payments);
+    let desk = settled(d, payment);
+    Answered {
+        answer: verdict,
+        desk,
+    }
+}
+
+// The settlement's table of refusals. The nonce is read on any book: out of frame it does not matter
+// what is read, since BadBook stands before NotNext.
+fn settle_reply(d: Desk, inbox: &[u64], outbox: &[u64], history: &[u64], n: Nonce) -> Answer
+    ensures { λ r. ⌜ told r ≡ plain (replyNumber (bookOf d (now (inbox .entry)) (now (outbox .entry)) (now (history .entry))) (Call.Settle n)) ⌝ }
+{
+    let due = number_at(outbox, 3);
+    let r = refuse(
+        (d.inflight == 0) | (due != n.0),
+        Refusal::NotNext,
+        Answer::Done,
+    );
+    refuse(!in_frame(d, inbox, outbox, history), Refusal::BadBook, r)
+}
+
+// The settled total of the payment's asset grows by its amount, and there is one payment less, which
+// was in flight.
+fn settled(d: Desk, p: Payment) -> Desk
+    requires { ⌜ CanSettle d p ⌝ }
+    ensures { λ r. ⌜ r ≡ settledDesk d p ⌝ }
+{
+    let more = of_eight(&d.settled, p.asset) + p.amount;
+    let mut after = with_settled(d, p.asset, more);
+    after.payments = d.payments - 1;
+    after.inflight = d.inflight - 1;
+    after
+}
+
+// The payment whose four numbers lie from a place on.
+fn payment_at(t: &[u64], at: usize) -> Payment
+    requires { ⌜ at ≤ 128 ⌝ }
+    ensures { λ r. ⌜ r ≡ paymentAt (now (t .entry)) at ⌝ }
+{
+    let asset = number_at(t, at);
+    let amount = number_at(t, at + 1);
+    let payee = number_at(t, at + 2);
+    let nonce = Nonce(number_at(t, at + 3));
+    Payment {
+        asset,
+        amount,
+        payee,
+        nonce,
+    }
+}
+
+// The number at a place of a table, and 0 past its end.
+fn number_at(t: &[u64], k: usize) -> u64
+    ensures { λ r. ⌜ r ≡ getD (now (t .entry)) k 0 ⌝ }
+{
+    if k < t.len() { t[k] } else { 0 }
+}
