@@ -1,0 +1,5 @@
+pub mod FieldLaws
+pub mod TakingLaws
+pub mod LineLaws
+pub mod PageLaws
+pub mod Once

@@ -1,0 +1,46 @@
+-- `fields::one_more`: the test before the product is the test after it.
+use mathlib.Core.Bool.{and-false}
+use Prim.Native.Nat.{_+_, _-_, _*_}
+use native.Mathlib.Omega.{arith}
+use borrow.Author.Tests.{le-leb, lt-leb}
+use Rattle.rules.specs.Limits.{highestField}
+use Rattle.lines.specs.Reading.{oneMore}
+use borrow.Author.Needs.{needs}
+use Rattle.lines.proofs.fields.one_more.Statement.{statement}
+use Rattle.lines.proofs.fields.one_more.Tie as tie
+
+returns : tie.Need-returns
+unfolding oneMore
+returns c = rw (lt-leb 48 (c .before .args .b) (c .if1 .taken))
+
+returns-2 : tie.Need-returns-2
+unfolding oneMore
+returns-2 c = rw (lt-leb (c .before .before .args .b) 57 (c .if2 .taken), and-false)
+
+cast-d : tie.Need-cast-d
+cast-d c = search needs
+
+sub-if3 : tie.Need-sub-if3
+sub-if3 c = search needs
+
+returns-3 : tie.Need-returns-3
+unfolding oneMore
+returns-3 c =
+    let a = c .before .before .before .args in
+    rw (lt-leb (a .v * 10 + (a .b - 48)) highestField (omega arith), and-false)
+
+mul-t6 : tie.Need-mul-t6
+mul-t6 c = search needs
+
+add-t7 : tie.Need-add-t7
+add-t7 c = search needs
+
+returns-4 : tie.Need-returns-4
+unfolding oneMore
+returns-4 c =
+    let a = c .before .before .before .args in
+    rw (le-leb 48 (a .b) (c .before .before .if1 .left), le-leb (a .b) 57 (c .before .if2 .left), le-leb (a .v * 10 + (a .b - 48)) highestField (omega arith))
+
+pub one-more-spec : {M : Type 1} → statement M
+one-more-spec =
+    tie.close (tie.spec returns returns-2 cast-d sub-if3 returns-3 mul-t6 add-t7 returns-4)
