@@ -1,0 +1,9 @@
+pub mod KindNumbers
+pub mod Following
+pub mod Counting
+pub mod LotTables
+pub mod Passing
+pub mod Replaying
+pub mod Payments
+pub mod Traced
+pub mod Once

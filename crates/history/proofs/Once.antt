@@ -1,0 +1,30 @@
+-- Any two results that a public function's contract allows coincide, refusals too.
+use Prim.Native.Nat.{ℕ}
+use mathlib.Core.Path.{_≡_, sym, ap, _∙_}
+use mathlib.Core.Bool.{Bool}
+use mathlib.Core.List.{List}
+use Rattle.rules.specs.declared.rows.Nonce.{Nonce}
+use Rattle.rules.specs.declared.answers.Answer.{Answer}
+use Rattle.rules.specs.declared.answers.Origin.{Origin}
+use Rattle.rules.specs.State.{Book}
+use Rattle.rules.specs.Replies.{toldOrigin}
+use Rattle.rules.specs.Answer.{TraceOutcome, traceAnswer, provenanceAnswer}
+use Rattle.rules.proofs.Told.{told-once, origin-once}
+use Rattle.history.specs.Test.{historyFrame}
+use Rattle.history.specs.Tracing.{traceOutcomeOf}
+
+pub history-in-frame-once : (t : List ℕ) (n : ℕ) (r r′ : Bool) → r ≡ historyFrame t n → r′ ≡ historyFrame t n → r ≡ r′
+history-in-frame-once t n r r′ p q = p ∙ sym q
+
+pub provenance-once : (b : Book) (m a : ℕ) (r r′ : Origin) → toldOrigin r ≡ provenanceAnswer b m a → toldOrigin r′ ≡ provenanceAnswer b m a → r ≡ r′
+provenance-once b m a r r′ p q = origin-once r r′ (p ∙ sym q)
+
+-- the answer, and every number of both lent tables
+pub trace-once : (b : Book) (work pieces : List ℕ) (n : Nonce) (r r′ : Answer) (w w′ p p′ : List ℕ)
+    → traceOutcomeOf r w p ≡ traceAnswer b work pieces n → traceOutcomeOf r′ w′ p′ ≡ traceAnswer b work pieces n → (r ≡ r′) × (w ≡ w′) × (p ≡ p′)
+trace-once b work pieces n r r′ w w′ p p′ e f =
+    let g : traceOutcomeOf r w p ≡ traceOutcomeOf r′ w′ p′ = e ∙ sym f in (
+      told-once r r′ (ap (λ (x : TraceOutcome). x .reply) g),
+      ap (λ (x : TraceOutcome). x .work) g,
+      ap (λ (x : TraceOutcome). x .pieces) g,
+    )

@@ -1,0 +1,4 @@
+pub mod Test
+pub mod Counts
+pub mod Working
+pub mod Tracing
