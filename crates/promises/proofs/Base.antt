@@ -1,29 +1,18 @@
--- What a refused call leaves, and the induction over runs that every promise uses.
-use Prim.Native.Nat.{ℕ, zero, suc, _+_, _≤_, _<_}
-use mathlib.Core.Path.{_∙_, _≡_, refl, ap}
+-- What a refused call leaves, where every run starts, and the induction over runs that every promise uses.
+use Prim.Native.Nat.{ℕ, zero, suc}
+use mathlib.Core.Path.{_≡_, refl, ap}
 use mathlib.Core.Logic.{_≢_}
-use mathlib.Core.Bool.{true, false, not, _&&_, _||_}
 use mathlib.Core.List.{List, [], _∷_, _++_, append-assoc, append-nil}
-use native.Mathlib.Omega.{arith}
-use lib.Dec.{leb, ltb, eqb}
-use lib.ListN.{length, getD}
-use borrow.Author.Tests.{leb-false, ltb-false, eqb-true, eqb-false}
-use Rattle.promises.specs.Types.{Nonce, Deposit, ClaimFields, TransferFields, WithdrawalFields, GrantFields, SignFields, Call, Payment}
-use Rattle.rules.specs.Limits.{ceiling, highestNumber, inboxRows, outboxRows, historyRows}
-use Rattle.rules.specs.Lists.{all, any}
-use Rattle.rules.specs.State.{Book, view, laid, historyOf, payments}
-use Rattle.rules.specs.Replies.{Reply, numberOf, told, if-done}
-use Rattle.rules.specs.Refusals.{refusals, traceRefusals, full}
-use Rattle.rules.specs.Effects.{effect, balance, holder, matches, total, oldest}
-use Rattle.rules.specs.Frame.{inFrame}
-use Rattle.rules.specs.History.{withdrawals, historyInFrame}
-use Rattle.rules.specs.Answer.{frameTest, replyNumber, doneAnswer, piecesOf, answer}
+use Rattle.promises.specs.Types.{Desk, Call}
+use Rattle.rules.specs.Tables.{rowsOf}
+use Rattle.rules.specs.State.{Book, view, deskOf, laid, emptyState, Empty}
+use Rattle.rules.specs.Replies.{Reply, told, if-done}
+use Rattle.rules.specs.Effects.{effect}
+use Rattle.rules.specs.Answer.{replyNumber, doneAnswer, piecesOf, bookOf, answer}
 use Rattle.rules.specs.Runs.{bookAfter, run, gather}
-use Rattle.rules.proofs.Shapes.{view-laid}
-use Rattle.rules.proofs.Facts.{Accepted, Within, DepositFit, ClaimFit, TransferFit, WithdrawalFit, SendFit, SettleFit, GrantFit, SignFit, TraceFit, Fit}
-use Rattle.promises.specs.Demand1.{Unchanged}
-use Rattle.rules.proofs.Tests.{twice-not, not-holds, neither, within-true, all-at, numbered, none-applies}
-use Rattle.rules.proofs.Accepts.{not-done, state-after}
+use Rattle.rules.proofs.Facts.{Accepted}
+use Rattle.rules.proofs.Accepts.{not-done}
+use Rattle.promises.specs.Promises.{Unchanged}
 
 -- a refused call leaves the book as found, and tells neither values nor pieces
 pub refused-leaves : (b : Book) (c : Call) → replyNumber b c ≢ 0 → Unchanged b (answer b c)
@@ -34,6 +23,11 @@ refused-leaves b c h =
       values = ap (λ (r : Reply). r .values) (not-done (replyNumber b c) (told (doneAnswer (view b) c)) (record { number = replyNumber b c; values = [] }) h);
       pieces = not-done (replyNumber b c) (piecesOf (view b) c) [] h;
     }
+
+-- an empty book has the empty state, whatever its unused rows hold
+pub view-empty : (b : Book) → Empty b → view b ≡ emptyState
+unfolding view deskOf emptyState rowsOf
+view-empty b e = ap (λ (d : Desk). view (bookOf d (b .inbox) (b .outbox) (b .history))) (e .desk)
 
 -- ---- the induction over runs
 module _ {A B : Type 0} (f : Book → Call → List A) (g : Book → Call → List B) (P : List A → List B → Book → Type 0)

@@ -1,69 +1,21 @@
--- The cells of the desk's lists, in one place: what a balance, a total or a holder is after one cell was changed. Later proofs see no index.
-use Prim.Native.Nat.{ℕ, _+_, _-_, _*_}
+-- The cells of the desk's lists of eight, in one place: what a total or a holder is after one was changed (lots has the balances). Later proofs see no index.
+use Prim.Native.Nat.{ℕ, _+_, _-_}
 use mathlib.Core.Path.{_≡_, refl, sym, _∙_}
 use mathlib.Core.Logic.{_≢_}
-use mathlib.Core.Bool.{Bool, true, false, _&&_, cond, true≢false}
+use mathlib.Core.Bool.{Bool, true, false, cond, true≢false}
 use mathlib.Core.List.{List}
 use native.Mathlib.Omega.{arith}
 use lib.Dec.{eqb}
 use lib.ListN.{length, getD, set, length-set}
 use lib.Seq.{getD-set-same, getD-set-other}
-use borrow.Author.Tests.{eqb-true, eqb-false, eq-eqb}
-use Rattle.rules.specs.Limits.{within, isMember, isAsset, memberCount, assetCount, domainCount}
+use borrow.Author.Tests.{eqb-true, eqb-false}
+use Rattle.rules.specs.Limits.{within, assetCount, domainCount}
 use Rattle.rules.specs.Effects.{cell, balance, credit, debit, holder, total, raised}
 use Rattle.rules.proofs.Facts.{Within}
-use Rattle.rules.proofs.Tests.{both, both-of, within-true, true-within}
+use Rattle.rules.proofs.Tests.{within-true, true-within}
 
 -- ---- balances
--- a member and an asset have a cell of their own
-cells-apart : (m a n b : ℕ) → Within 1 memberCount m → Within 1 assetCount a → Within 1 memberCount n → Within 1 assetCount b
-    → eqb m n && eqb a b ≡ false → cell n b ≢ cell m a
-cells-apart m a n b hm ha hn hb e c =
-    let p : m ≡ n = omega arith in
-    let q : a ≡ b = omega arith in
-    true≢false (sym (both-of (eqb m n) (eqb a b) (eq-eqb m n p) (eq-eqb a b q)) ∙ e)
-
-module _ (bs : List ℕ) (m a : ℕ) (size : length bs ≡ memberCount * assetCount) (hm : Within 1 memberCount m) (ha : Within 1 assetCount a) where
-  -- the balances after one cell was set
-  balance-set : (v n b : ℕ) → balance (set bs (cell m a) v) n b ≡ cond (eqb m n && eqb a b) v (balance bs n b)
-  unfolding balance
-  balance-set v n b = go (isMember n && isAsset b) refl (eqb m n && eqb a b) refl
-    where
-      go : (t : Bool) → isMember n && isAsset b ≡ t → (u : Bool) → eqb m n && eqb a b ≡ u
-          → cond t (getD (set bs (cell m a) v) (cell n b) 0) 0 ≡ cond u v (cond t (getD bs (cell n b) 0) 0)
-      go true e true f =
-          let (p, q) = both (eqb m n) (eqb a b) f in
-          rw (← eqb-true m n p, ← eqb-true a b q) (getD-set-same bs (cell m a) v 0 (omega arith))
-      go true e false f =
-          let (p, q) = both (isMember n) (isAsset b) e in
-          getD-set-other bs (cell m a) (cell n b) v 0 (cells-apart m a n b hm ha (within-true 1 16 n p) (within-true 1 8 b q) f)
-      go false e true f =
-          let (p, q) = both (eqb m n) (eqb a b) f in
-          let i : isMember n && isAsset b ≡ true =
-          rw (← eqb-true m n p, ← eqb-true a b q) (both-of (isMember m) (isAsset a) (true-within 1 16 m hm) (true-within 1 8 a ha)) in
-          absurd (true≢false (sym i ∙ e))
-      go false e false f = refl
-
-  -- the value that the cell gets may be said of the balance that is asked for
-  same-cell : (f : ℕ → ℕ) (n b : ℕ) → cond (eqb m n && eqb a b) (f (balance bs m a)) (balance bs n b) ≡ cond (eqb m n && eqb a b) (f (balance bs n b)) (balance bs n b)
-  same-cell f n b = go (eqb m n && eqb a b) refl
-    where
-      go : (t : Bool) → eqb m n && eqb a b ≡ t → cond t (f (balance bs m a)) (balance bs n b) ≡ cond t (f (balance bs n b)) (balance bs n b)
-      go true e =
-          let (p, q) = both (eqb m n) (eqb a b) e in
-          rw (eqb-true m n p, eqb-true a b q)
-      go false e = refl
-
-  -- what every member's balance in every asset is after a credit, and after a debit
-  pub balance-credit : (x n b : ℕ) → balance (credit bs m a x) n b ≡ cond (eqb m n && eqb a b) (balance bs n b + x) (balance bs n b)
-  unfolding credit
-  balance-credit x n b = balance-set (balance bs m a + x) n b ∙ same-cell (λ v. v + x) n b
-
-  pub balance-debit : (x n b : ℕ) → balance (debit bs m a x) n b ≡ cond (eqb m n && eqb a b) (balance bs n b - x) (balance bs n b)
-  unfolding debit
-  balance-debit x n b = balance-set (balance bs m a - x) n b ∙ same-cell (λ v. v - x) n b
-
--- neither changes how many balances there are
+-- neither a credit nor a debit changes how many balances there are
 pub length-credit : (bs : List ℕ) (m a x : ℕ) → length (credit bs m a x) ≡ length bs
 unfolding credit
 length-credit bs m a x = length-set bs (cell m a) (balance bs m a + x)

@@ -1,10 +1,11 @@
 -- Demand 1, proved.
-use Rattle.rules.specs.Lines.{numbers}
-use Rattle.promises.specs.Demand1.{Demand1}
+use Rattle.promises.specs.Promises.{Demand1}
 use Rattle.promises.proofs.Replies.{numbered, refused, line-answered}
-use Rattle.promises.proofs.Lines.{cut, answers}
+use Rattle.promises.proofs.Lines.{answers}
+use Rattle.promises.proofs.Cut.{cut}
 use Rattle.promises.proofs.EmptyFields.{empty-fields}
+use Rattle.promises.proofs.ReadNumbers.{reading}
 
 -- the whole of demand 1
 pub demand1 : Demand1
-demand1 = record { numbers = numbered; refused = refused; lines = line-answered; cut = cut; answers = answers; emptyFields = empty-fields }
+demand1 = record { calls = numbered; refused = refused; lines = line-answered; cut = cut; answers = answers; emptyFields = empty-fields; reading = reading }

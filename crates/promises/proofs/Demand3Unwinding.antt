@@ -2,23 +2,15 @@
 use mathlib.Core.Path.{_≡_, refl, sym, ap, ap₂, _∙_}
 use mathlib.Core.Bool.{Bool, true, false, cond}
 use mathlib.Core.List.{List, [], _∷_, _++_, append-nil, append-assoc, foldl, foldl-append}
-use Rattle.promises.specs.Types.{Desk, Call}
+use Rattle.promises.specs.Types.{Call}
 use Rattle.rules.specs.Lists.{those, joined}
-use Rattle.rules.specs.Tables.{rowsOf}
-use Rattle.rules.specs.State.{State, Book, Empty, view, laid, deskOf, emptyState}
+use Rattle.rules.specs.State.{State, Book, view, laid}
 use Rattle.rules.specs.Effects.{effect}
-use Rattle.rules.specs.Answer.{bookOf}
 use Rattle.rules.specs.Runs.{run, gather, itself, accepted}
 use Rattle.rules.proofs.Laying.{joined-append}
 use Rattle.rules.proofs.Shapes.{view-laid}
 use Rattle.rules.proofs.Facts.{Accepted}
 use Rattle.promises.proofs.Base.{run-keeps}
-
--- ---- where every run starts
--- an empty book has the empty state, whatever its unused rows hold
-pub view-empty : (b : Book) → Empty b → view b ≡ emptyState
-unfolding view deskOf emptyState rowsOf
-view-empty b e = ap (λ (d : Desk). view (bookOf d (b .inbox) (b .outbox) (b .history))) (e .desk)
 
 -- ---- lists of what is seen
 -- those that pass a test are what each shows of itself, one after the other

@@ -10,7 +10,10 @@ use borrow.Author.Tests.{eqb-true}
 use Rattle.promises.specs.Types.{Line, Field}
 use Rattle.rules.specs.Lists.{any, bytes, same}
 use Rattle.rules.specs.Lines.{tab, fields, fieldsFrom, number, readsAsNumber, Numbers, andRead, numbers, forms, formed, formedOf, readFields, readLine, depositForm, claimForm, transferForm, withdrawForm, sendForm, settleForm, grantForm, signForm, traceForm}
-use Rattle.promises.specs.Demand1.{isEmpty, EmptyFields}
+use Rattle.rules.specs.Replies.{numberOf, told}
+use Rattle.rules.specs.Transcript.{answerLine}
+use Rattle.promises.specs.Demand1.{isEmpty}
+use Rattle.promises.specs.Promises.{EmptyFields}
 
 -- an empty field is no number
 empty-number : (f : List ℕ) → isEmpty f ≡ true → number f ≡ Field.NotANumber
@@ -76,7 +79,7 @@ tab-first : (after : List ℕ) → any isEmpty (fields (tab ∷ after)) ≡ true
 unfolding any fields fieldsFrom
 tab-first after = refl
 
--- the four ways to say it
+-- the four ways to say it, and what such a line gets
 pub empty-fields : EmptyFields
 unfolding fields fieldsFrom any
 empty-fields =
@@ -85,4 +88,5 @@ empty-fields =
       twoTabs = λ before after. some-field (before ++ (tab ∷ tab ∷ after)) (tab-before (tab ∷ after) (tab-first after) [] before);
       tabFirst = λ after. some-field (tab ∷ after) (tab-first after);
       tabLast = λ before. some-field (before ++ (tab ∷ [])) (tab-before [] refl [] before);
+      malformed = λ b. unfold answerLine told numberOf in refl;
     }

@@ -1,20 +1,19 @@
 -- The frame as facts about the state, with the tables' sizes apart: what a book in frame gives, and what puts a laid book in frame.
-use Prim.Native.Nat.{ℕ, zero, suc, _+_, _-_, _*_, _≤_, max}
-use mathlib.Core.Path.{_≡_, refl, sym, ap, _∙_}
+use Prim.Native.Nat.{ℕ, zero, suc, _≤_}
+use mathlib.Core.Path.{_≡_, refl}
 use mathlib.Core.Bool.{Bool, true}
 use mathlib.Core.List.{List, [], _∷_, _++_}
-use native.Mathlib.Nat.{add-mul, suc-mul, zero-mul}
 use native.Mathlib.Omega.{arith}
 use lib.Dec.{leb}
-use lib.ListN.{length, getD, take, drop, replicate, length-append, length-drop, length-replicate, take-append-drop}
+use lib.ListN.{length, getD, take, drop, length-append, take-append-drop}
 use borrow.Author.Tests.{leb-true, le-leb, eqb-true, eq-eqb}
 use Rattle.rules.specs.Limits.{inboxRows, outboxRows, historyRows, highestNumber, highestNext, isMember}
-use Rattle.rules.specs.Lists.{all, ands, joined}
-use Rattle.rules.specs.Tables.{Shape, Sound, lay, depositShape, paymentShape, recordShape}
+use Rattle.rules.specs.Lists.{all, ands}
+use Rattle.rules.specs.Tables.{depositShape, paymentShape, recordShape}
 use Rattle.rules.specs.State.{State, Book, view, laid, deskOf, payments, inboxOf, outboxOf}
 use Rattle.rules.specs.Frame.{hasRows, upToCeiling, depositInLimits, paymentInLimits, numbersRise, noncesRise, inFrame}
 use Rattle.rules.proofs.Laying.{length-rows, rows-laid}
-use Rattle.rules.proofs.Shapes.{depositSound, paymentSound, recordSound}
+use Rattle.rules.proofs.Shapes.{depositSound, paymentSound}
 use Rattle.rules.proofs.Tests.{both}
 
 -- the lent tables have their sizes
@@ -47,7 +46,7 @@ ands-at (t ∷ ts) zero h = both t (ands ts) h .0
 ands-at (t ∷ ts) (suc k) h = ands-at ts k (both t (ands ts) h .1)
 
 -- the tests of a book in frame
-tests : Book → List Bool
+unfoldable pub tests : Book → List Bool
 tests b =
     hasRows depositShape inboxRows (b .inbox)
     ∷ hasRows paymentShape outboxRows (b .outbox)
@@ -69,7 +68,7 @@ tests b =
     ∷ []
 
 -- each of them holds
-passed : (b : Book) → inFrame b ≡ true → (k : ℕ) → getD (tests b) k true ≡ true
+pub passed : (b : Book) → inFrame b ≡ true → (k : ℕ) → getD (tests b) k true ≡ true
 unfolding inFrame tests
 passed b h k = ands-at (tests b) k h
 
@@ -129,41 +128,3 @@ in-frame s b f z =
       le-leb (s .outside .next .0) highestNext (f .next),
       f .holders,
     )
-
--- ---- laying keeps a table's size
-module _ {A : Type 0} (shape : Shape A) (sound : Sound shape) where
-  -- so many rows are so many times the width
-  length-joined : (rows : List A) → length (joined (shape .flat) rows) ≡ length rows * shape .width
-  unfolding joined
-  length-joined [] = sym (zero-mul (shape .width))
-  length-joined (r ∷ rows) = rw (length-append (shape .flat r) (joined (shape .flat) rows), sound .wide r, length-joined rows, suc-mul (length rows) (shape .width)) (omega arith)
-
-  -- where the table has room for the rows before and after
-  pub length-lay : (rows : List A) (n : ℕ) (t : List ℕ) → max n (length rows) * shape .width ≤ length t → length (lay shape rows n t) ≡ length t
-  unfolding lay
-  length-lay rows n t h =
-      let e : max n (length rows) ≡ length rows + (n - length rows) = omega arith in
-      let p : max n (length rows) * shape .width ≡ length rows * shape .width + (n - length rows) * shape .width =
-      ap (λ (k : ℕ). k * shape .width) e ∙ add-mul (length rows) (n - length rows) (shape .width) in
-      rw (
-        length-append (joined (shape .flat) rows ++ replicate ((n - length rows) * shape .width) 0) (drop (max n (length rows) * shape .width) t),
-        length-append (joined (shape .flat) rows) (replicate ((n - length rows) * shape .width) 0),
-        length-joined rows,
-        length-replicate {A = ℕ} ((n - length rows) * shape .width) 0,
-        length-drop (max n (length rows) * shape .width) t,
-      )
-      (omega arith)
-
--- a book in frame with a framed state laid into it keeps its tables' sizes
-pub sized-laid : (s : State) (b : Book) → inFrame b ≡ true → Framed s → Sized (laid s b)
-unfolding laid tests
-sized-laid s b h f =
-    let z : Sized b = sized b h in
-    let u : b .desk .unclaimed ≤ 64 = leb-true (b .desk .unclaimed) 64 (passed b h 3) in
-    let p : b .desk .payments ≤ 32 = leb-true (b .desk .payments) 32 (passed b h 4) in
-    let r : b .desk .records ≤ 1024 = leb-true (b .desk .records) 1024 (passed b h 5) in
-    record {
-      inboxSize = length-lay depositShape depositSound (s .inbox) (b .desk .unclaimed) (b .inbox) (omega arith) ∙ z .inboxSize;
-      outboxSize = length-lay paymentShape paymentSound (payments (s .outside)) (b .desk .payments) (b .outbox) (omega arith) ∙ z .outboxSize;
-      historySize = length-lay recordShape recordSound (s .history) (b .desk .records) (b .history) (omega arith) ∙ z .historySize;
-    }

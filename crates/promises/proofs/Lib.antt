@@ -1,21 +1,36 @@
--- The proofs of the promises: demand 1, demand 2, demand 3.
+-- The proofs of the promises: demand 1, demand 2, demand 3, and all of them; then the examples.
 pub mod Base
+pub mod Smallest
 pub mod Replies
+pub mod LineFeeds
 pub mod Lines
+pub mod Cut
 pub mod EmptyFields
+pub mod ReadNumbers
 pub mod Demand1
 pub mod Lists
 pub mod Cells
 pub mod Sums
 pub mod Framed
+pub mod TableSizes
+pub mod Lengths
 pub mod Sheet
-pub mod FrameTables
+pub mod OutboxFrame
+pub mod InboxFrame
+pub mod Ceilings
 pub mod Frame
+pub mod Grants
 pub mod History
 pub mod Reached
 pub mod Accepts
+pub mod UpFrom
 pub mod Order
 pub mod Queue
+pub mod Sources
+pub mod Payments
+pub mod OldestFirst
+pub mod Traces
+pub mod ReadyBooks
 pub mod Demand2
 pub mod Demand3Unwinding
 pub mod OutsideMachine
@@ -24,4 +39,7 @@ pub mod MemberInbox
 pub mod MemberDomains
 pub mod MemberStatement
 pub mod MemberReplies
+pub mod Demand3
+pub mod Promises
 pub mod Demand3Examples
+pub mod Examples

@@ -1,13 +1,13 @@
 -- What a member sees of the inbox: the rows for the member, in order. They move as the inbox does by the calls that name the member, and by no other.
 use Prim.Native.Nat.{ℕ, suc}
 use mathlib.Core.Path.{_≡_, refl, sym, ap, _∙_}
-use mathlib.Core.Bool.{Bool, true, false, _&&_, _||_, cond, false≢true}
+use mathlib.Core.Bool.{Bool, true, false, _&&_, cond, false≢true}
 use mathlib.Core.List.{List, [], _∷_, _++_, append-nil}
 use lib.Dec.{eqb}
 use lib.ListN.{take, drop}
 use borrow.Author.Tests.{eqb-true}
 use Rattle.promises.specs.Types.{Deposit, ClaimFields, Call}
-use Rattle.rules.specs.Lists.{any, those, indexOf}
+use Rattle.rules.specs.Lists.{those, indexOf}
 use Rattle.rules.specs.Tables.{edited}
 use Rattle.rules.specs.State.{State, Book, Empty, view}
 use Rattle.rules.specs.Effects.{effect, matches, inboxEdit}
@@ -46,18 +46,6 @@ module _ {A : Type 0} (p q : A → Bool) where
           → those p (take (cond t 0 (suc (indexOf q xs))) (x ∷ xs) ++ drop (suc (cond t 0 (suc (indexOf q xs)))) (x ∷ xs)) ≡ cond (p x) (x ∷ those p xs) (those p xs)
       go true e ih = rw (h x e)
       go false e ih = rw ih
-
-  -- if what passes q passes p, whether some element passes q is known from those that pass p
-  pub any-those : ((x : A) → q x ≡ true → p x ≡ true) → (xs : List A) → any q xs ≡ any q (those p xs)
-  unfolding any those
-  any-those h [] = refl
-  any-those h (x ∷ xs) = go (q x) (p x) refl refl (any-those h xs)
-    where
-      go : (t u : Bool) → q x ≡ t → p x ≡ u → any q xs ≡ any q (those p xs) → t || any q xs ≡ any q (cond u (x ∷ those p xs) (those p xs))
-      go true true e f ih = rw e
-      go true false e f ih = absurd (false≢true (sym f ∙ h x e))
-      go false true e f ih = rw e ih
-      go false false e f ih = ih
 
 -- ---- the member's rows
 -- a deposit that is for the member

@@ -18,9 +18,11 @@ use Rattle.rules.specs.Answer.{frameTest, replyNumber, replyWith, doneAnswer, a
 use Rattle.rules.specs.Runs.{run}
 use Rattle.rules.specs.Sheet.{upFrom}
 use Rattle.rules.specs.Views.{seenBy, shownTo, asks, hasRoom}
-use Rattle.promises.specs.Demand3.{MemberTold, MemberAnswered, StaysInFrame}
+use Rattle.promises.specs.Promises.{MemberTold, MemberAnswered}
 use Rattle.rules.proofs.Tests.{both, not-holds}
-use Rattle.promises.proofs.MemberInbox.{isFor, matches-member, any-those, same-unclaimed}
+use Rattle.promises.proofs.Lists.{any-those}
+use Rattle.promises.proofs.Demand2.{demand2}
+use Rattle.promises.proofs.MemberInbox.{isFor, matches-member, same-unclaimed}
 use Rattle.promises.proofs.MemberDomains.{holds, same-domains}
 use Rattle.promises.proofs.MemberStatement.{same-statement, same-balances}
 
@@ -99,12 +101,11 @@ reply-by-table m b f (Call.Grant g) h = rw f
 reply-by-table m b f (Call.Sign g) h = rw f
 reply-by-table m b f (Call.Trace n) h = absurd (false≢true h)
 
--- demand 3, the member's next call, where an empty book stays in frame whatever calls come
-module _ (frame : StaysInFrame) where
-  pub member-answered : MemberAnswered
-  member-answered m b b′ e e′ cs cs′ alike c h r r′ =
-      let s : State = view (run b cs) in
-      let s′ : State = view (run b′ cs′) in
-      reply-by-table m (run b cs) (frame b e cs) c h
-      ∙ ap (λ (rs : List (ℕ × Bool)). replyWith (smallest rs) (told Answer.Done)) (same-refusals m s s′ (same-after m b b′ e e′ cs cs′ alike) r r′ c h)
-      ∙ sym (reply-by-table m (run b′ cs′) (frame b′ e′ cs′) c h)
+-- demand 3, the member's next call: by demand 2 both books are in frame
+pub member-answered : MemberAnswered
+member-answered m b b′ e e′ cs cs′ alike c h r r′ =
+    let s : State = view (run b cs) in
+    let s′ : State = view (run b′ cs′) in
+    reply-by-table m (run b cs) (demand2 b cs e .frame .book) c h
+    ∙ ap (λ (rs : List (ℕ × Bool)). replyWith (smallest rs) (told Answer.Done)) (same-refusals m s s′ (same-after m b b′ e e′ cs cs′ alike) r r′ c h)
+    ∙ sym (reply-by-table m (run b′ cs′) (demand2 b′ cs′ e′ .frame .book) c h)

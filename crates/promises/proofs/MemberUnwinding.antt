@@ -10,7 +10,8 @@ use Rattle.rules.specs.Effects.{effect}
 use Rattle.rules.specs.Runs.{run, accepted}
 use Rattle.rules.specs.Views.{namesMember, seenBy}
 use Rattle.rules.proofs.Facts.{Accepted}
-use Rattle.promises.proofs.Demand3Unwinding.{view-empty, those-joined, shownBy, unwound}
+use Rattle.promises.proofs.Base.{view-empty}
+use Rattle.promises.proofs.Demand3Unwinding.{those-joined, shownBy, unwound}
 
 -- where each thing shows nothing, a list of them shows nothing
 silent : {W : Type 0} (moved : W → Call → W) (v : W) (xs : List Call) → _≡_ {A = List Call} [] (shownBy moved (λ w c. []) v xs)

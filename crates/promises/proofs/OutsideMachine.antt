@@ -10,8 +10,9 @@ use Rattle.rules.specs.Effects.{effect, deposited, withdrawn, sent, settledOne,
 use Rattle.rules.specs.Runs.{run, gather, depositing, sending, settling, settlements}
 use Rattle.rules.specs.Sheet.{upFrom, depositedIn, paidIn, acceptedDeposits, settledSum, chainTotal}
 use Rattle.rules.specs.Views.{Seen, outsideOf, seenOutside, outsideView}
-use Rattle.promises.specs.Demand3.{OutsideTold}
-use Rattle.promises.proofs.Demand3Unwinding.{view-empty, shownBy, unwound}
+use Rattle.promises.specs.Promises.{OutsideTold}
+use Rattle.promises.proofs.Base.{view-empty}
+use Rattle.promises.proofs.Demand3Unwinding.{shownBy, unwound}
 
 -- what each thing seen does to the outside; of a withdrawal the member is not known, and not needed
 movedOutside : Outside → Seen → Outside

@@ -15,7 +15,8 @@ use Rattle.rules.specs.Effects.{effect, oldest, paymentOf, deposited, withdrawn
 use Rattle.rules.specs.Answer.{replyNumber, doneAnswer, answer}
 use Rattle.rules.specs.Runs.{bookAfter, run, gather, sending, sends, sentAfter}
 use Rattle.rules.proofs.Facts.{Accepted, SendFit}
-use Rattle.promises.specs.Demand2.{queueing, queued, isSend, sendCalls, waitingIn, noPayment, Queue}
+use Rattle.promises.specs.Demand2.{queueing, queued, isSend, sendCalls, waitingIn, noPayment}
+use Rattle.promises.specs.Promises.{Queue}
 use Rattle.rules.proofs.Accepts.{fit}
 use Rattle.promises.proofs.Reached.{Ready, ready-run, ready-keeps}
 use Rattle.promises.proofs.Accepts.{accepts}

@@ -5,33 +5,36 @@ use mathlib.Core.Bool.{Bool, true, false, _&&_, cond}
 use mathlib.Core.List.{List, [], _∷_, _++_}
 use native.Mathlib.Omega.{arith}
 use lib.ListN.{getD, replicate, getD-replicate}
-use Rattle.promises.specs.Types.{Call, Desk}
+use Rattle.promises.specs.Types.{Call}
 use Rattle.rules.specs.Limits.{isMember, isAsset, domainCount}
 use Rattle.rules.specs.Lists.{all, ands, sumOf, those}
 use Rattle.rules.specs.Tables.{rowsOf}
 use Rattle.rules.specs.State.{State, Book, view, deskOf, laid, emptyState, Empty}
 use Rattle.rules.specs.Effects.{cell, effect, balance, holder, total}
 use Rattle.rules.specs.Frame.{inFrame, numbersRise, noncesRise, noncesFrom}
-use Rattle.rules.specs.History.{provenance, emptyStanding, replays, withdrawals}
+use Rattle.rules.specs.History.{emptyStanding, replays, withdrawals}
 use Rattle.rules.specs.Runs.{run, gather}
 use Rattle.rules.specs.Sheet.{upFrom}
 use Rattle.rules.proofs.Shapes.{view-laid}
 use Rattle.rules.proofs.Facts.{Accepted, Within, Fit}
+use Rattle.lots.specs.Traces.{standingThrough}
 use Rattle.promises.specs.Demand2.{heldAfter}
 use Rattle.rules.proofs.Tests.{true-within}
 use Rattle.rules.proofs.Accepts.{accepted-frame, fit}
-use Rattle.promises.proofs.Base.{run-keeps}
-use Rattle.promises.proofs.Framed.{Framed, framed, in-frame, sized-laid}
-use Rattle.promises.proofs.Sheet.{Lengths, lengths-kept, Balanced, balanced-kept}
+use Rattle.promises.proofs.Base.{view-empty, run-keeps}
+use Rattle.promises.proofs.Framed.{Framed, framed, in-frame}
+use Rattle.promises.proofs.TableSizes.{sized-laid}
+use Rattle.promises.proofs.Sheet.{Balanced, balanced-kept}
+use Rattle.promises.proofs.Lengths.{Lengths, lengths-kept}
 use Rattle.promises.proofs.Frame.{Counts, counts-kept, framed-kept}
-use Rattle.promises.proofs.History.{Provenanced, provenance-kept, Granted, grants-kept, Replayed, replayed-kept, standingFrom}
+use Rattle.promises.proofs.History.{Replayed, replayed-kept}
+use Rattle.promises.proofs.Grants.{Granted, grants-kept}
 
 -- what a reached state keeps
 pub record Good (s : State) : Type 0 where
   pub lengths : Lengths s
   pub sheet : (a : ℕ) → Balanced s a
   pub counts : Counts s
-  pub provenanced : Provenanced s
   pub granted : Granted s
   pub replayed : Replayed s
 
@@ -44,7 +47,6 @@ good-kept b c a g =
       lengths = lengths-kept (view b) c (g .lengths);
       sheet = λ x. balanced-kept (view b) c k f (g .lengths) x (g .sheet x);
       counts = counts-kept (view b) c (g .counts);
-      provenanced = provenance-kept (view b) c k (g .lengths) (g .provenanced);
       granted = grants-kept (view b) c k (g .lengths) (g .granted);
       replayed = replayed-kept (view b) c k f (g .replayed);
     }
@@ -91,19 +93,11 @@ good-empty =
       lengths = record { balances = refl; holders = refl; lifetime = refl; settled = refl };
       sheet = λ a. unfold sumOf in rw (total-zeros 8 a, all-zeros 128 a (upFrom 1 16));
       counts = unfold withdrawals those in refl;
-      provenanced = λ m a. unfold provenance in balance-zeros 128 m a;
       granted = λ d h. unfold heldAfter in holder-ones d h;
-      replayed = unfold replays standingFrom emptyStanding in record { passes = refl; comesTo = refl };
+      replayed = unfold replays standingThrough emptyStanding in record { passes = refl; comesTo = refl };
     }
 
--- an empty book, whatever its unused rows hold, has the empty state and is in frame
-pub view-empty : (b : Book) → Empty b → view b ≡ emptyState
-view-empty b e = of-desk (b .desk) (e .desk)
-  where
-    of-desk : (d : Desk) → d ≡ deskOf emptyState → view (record { desk = d; inbox = b .inbox; outbox = b .outbox; history = b .history }) ≡ emptyState
-    of-desk d q = unfold view emptyState deskOf rowsOf in rw q
-
--- its desk is that of the empty state, and its tables have their sizes
+-- an empty book is in frame: its desk is that of the empty state, and its tables have their sizes
 frame-empty : (b : Book) → Empty b → inFrame b ≡ true
 unfolding inFrame ands all deskOf emptyState rowsOf numbersRise noncesRise noncesFrom
 frame-empty b e = rw (e .desk, e .inbox, e .outbox, e .history)

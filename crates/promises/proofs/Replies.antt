@@ -7,16 +7,18 @@ use mathlib.Core.List.{List, [], _∷_, map}
 use native.Mathlib.Omega.{arith}
 use lib.Dec.{leb, eqb}
 use borrow.Author.Tests.{leb-true, eq-eqb, eqb-true, leb-false}
-use Rattle.promises.specs.Types.{Call, Line, Answer}
+use Rattle.promises.specs.Types.{Call, Line}
 use Rattle.rules.specs.Lists.{all, any}
 use Rattle.rules.specs.State.{State, Book, view}
 use Rattle.rules.specs.Replies.{Reply, numberOf, told, smaller, smallest}
 use Rattle.rules.specs.Refusals.{refusals, traceRefusals}
 use Rattle.rules.specs.Answer.{frameTest, replyNumber, replyWith, doneAnswer, answer}
 use Rattle.rules.specs.Transcript.{answerLine}
-use Rattle.promises.specs.Demand1.{possible, isOneOf, Numbered, Unchanged, LineAnswered}
+use Rattle.promises.specs.Demand1.{possible, isOneOf}
+use Rattle.promises.specs.Promises.{Numbered, Unchanged, LineAnswered}
 use Rattle.rules.proofs.Tests.{both}
 use Rattle.promises.proofs.Base.{refused-leaves}
+use Rattle.promises.proofs.Smallest.{number-applies, number-smallest}
 
 -- the smallest number of a table is 0 or one of its numbers
 pub smallest-own : (rs : List (ℕ × Bool)) → isOneOf (smallest rs) (0 ∷ map (λ (r : ℕ × Bool). r .0) rs) ≡ true
@@ -108,7 +110,12 @@ reply-number b c = reply-with (replyNumber b c) (told (doneAnswer (view b) c)) (
 pub numbered : (b : Book) (c : Call) → Numbered b c
 numbered b c =
     let own : isOneOf (answer b c .reply .number) (possible c) ≡ true = rw (reply-number b c, ← own-numbers b c) (number-own b c) in
-    record { oneOfItsOwn = own; atMost = leb-true (answer b c .reply .number) 21 (one-passes (λ n. leb n 21) (answer b c .reply .number) (possible c) own (low-numbers c)) }
+    record {
+      oneOfItsOwn = own;
+      atMost = leb-true (answer b c .reply .number) 21 (one-passes (λ n. leb n 21) (answer b c .reply .number) (possible c) own (low-numbers c));
+      applies = rw (reply-number b c) (number-applies b c);
+      smallest = rw (reply-number b c) (number-smallest b c);
+    }
   where
     number-own : (b : Book) (c : Call) → isOneOf (replyNumber b c) (0 ∷ map (λ (r : ℕ × Bool). r .0) (frameTest b c ∷ refusals (view b) c)) ≡ true
     number-own b c = unfold replyNumber in smallest-own (frameTest b c ∷ refusals (view b) c)

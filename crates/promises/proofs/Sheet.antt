@@ -1,67 +1,33 @@
--- The balance sheet, kept by every accepted call; and the desk's lists keep their lengths.
-use Prim.Native.Nat.{ℕ, _+_, _-_, _*_, _≤_}
+-- The balance sheet, kept by every accepted call.
+use Prim.Native.Nat.{ℕ, _+_, _≤_}
 use mathlib.Core.Path.{_≡_, refl, ap, _∙_}
 use mathlib.Core.Bool.{true, _&&_, cond}
 use mathlib.Core.List.{List, [], _∷_, _++_, append-assoc}
 use native.Mathlib.Omega.{arith}
 use lib.Dec.{eqb}
-use lib.ListN.{length, getD, take, drop, length-set, take-append-drop}
+use lib.ListN.{length, getD, take, drop, take-append-drop}
 use borrow.Author.Tests.{eqb-true}
 use Rattle.promises.specs.Types.{Deposit, Payment, ClaimFields, Call}
-use Rattle.rules.specs.Limits.{isAsset, isAmount, isPayee, memberCount, assetCount, domainCount}
+use Rattle.rules.specs.Limits.{isAsset, isAmount, isPayee, assetCount}
 use Rattle.rules.specs.Lists.{all, any, indexOf, sumOf}
 use Rattle.rules.specs.Tables.{edited}
 use Rattle.rules.specs.State.{Outside, State, payments}
-use Rattle.rules.specs.Effects.{effect, debit, balancesAfter, holdersAfter, matches, inboxEdit, total, oldest, paymentOf, deposited, withdrawn, sent, settledOne, outsideAfter}
+use Rattle.rules.specs.Effects.{effect, debit, balancesAfter, matches, inboxEdit, total, oldest, paymentOf, deposited, withdrawn, sent, settledOne, outsideAfter}
 use Rattle.rules.specs.Frame.{paymentInLimits}
 use Rattle.rules.specs.Sheet.{depositedIn, paidIn}
 use Rattle.rules.proofs.Facts.{Within, Fit}
 use Rattle.rules.proofs.Tests.{both, within-true}
 use Rattle.promises.proofs.Framed.{Framed}
-use Rattle.promises.proofs.Cells.{length-credit, length-debit, total-raised, length-raised}
-use Rattle.promises.proofs.Sums.{sum-append, sum-one, sum-without, found-in, found-passes, allOf, sum-credit, sum-debit}
-
--- the desk's lists have their lengths
-pub record Lengths (s : State) : Type 0 where
-  pub balances : length (s .balances) ≡ memberCount * assetCount
-  pub holders : length (s .holders) ≡ domainCount
-  pub lifetime : length (s .outside .lifetime) ≡ assetCount
-  pub settled : length (s .outside .settled) ≡ assetCount
+use Rattle.promises.proofs.Cells.{length-debit, total-raised}
+use Rattle.lots.proofs.ListLaws.{sum-append}
+use Rattle.promises.proofs.Sums.{sum-one, sum-without, found-in, found-passes, allOf, sum-credit, sum-debit}
+use Rattle.promises.proofs.Lengths.{Lengths}
 
 -- lifetime deposits of an asset: unclaimed, in balances, in the outbox, settled
 abbrev pub Balanced : State → ℕ → Type 0
 Balanced s a =
     total (s .outside .lifetime) a
     ≡ sumOf (depositedIn a) (s .inbox) + allOf a (s .balances) + sumOf (paidIn a) (payments (s .outside)) + total (s .outside .settled) a
-
--- ---- lengths
--- no call changes how long the lists are
-pub lengths-kept : (s : State) (c : Call) → Lengths s → Lengths (effect c s)
-unfolding effect balancesAfter holdersAfter outsideAfter deposited withdrawn sent settledOne
-lengths-kept s (Call.Deposit d) l =
-    record { balances = l .balances; holders = l .holders; lifetime = length-raised (s .outside .lifetime) (d .asset) (d .amount) ∙ l .lifetime; settled = l .settled }
-lengths-kept s (Call.Claim c) l =
-    record { balances = length-credit (s .balances) (c .member) (c .asset) (c .amount) ∙ l .balances; holders = l .holders; lifetime = l .lifetime; settled = l .settled }
-lengths-kept s (Call.Transfer t) l =
-    record {
-      balances =
-          length-credit (debit (s .balances) (t .from) (t .asset) (t .amount)) (t .to) (t .asset) (t .amount)
-          ∙ length-debit (s .balances) (t .from) (t .asset) (t .amount)
-          ∙ l .balances;
-      holders = l .holders;
-      lifetime = l .lifetime;
-      settled = l .settled;
-    }
-lengths-kept s (Call.Withdraw w) l =
-    record { balances = length-debit (s .balances) (w .member) (w .asset) (w .amount) ∙ l .balances; holders = l .holders; lifetime = l .lifetime; settled = l .settled }
-lengths-kept s Call.Send l = record { balances = l .balances; holders = l .holders; lifetime = l .lifetime; settled = l .settled }
-lengths-kept s (Call.Settle n) l =
-    let p : Payment = oldest (s .outside .inflight) in
-    record { balances = l .balances; holders = l .holders; lifetime = l .lifetime; settled = length-raised (s .outside .settled) (p .asset) (p .amount) ∙ l .settled }
-lengths-kept s (Call.Grant g) l =
-    record { balances = l .balances; holders = length-set (s .holders) (g .domain - 1) (g .to) ∙ l .holders; lifetime = l .lifetime; settled = l .settled }
-lengths-kept s (Call.Sign g) l = record { balances = l .balances; holders = l .holders; lifetime = l .lifetime; settled = l .settled }
-lengths-kept s (Call.Trace n) l = record { balances = l .balances; holders = l .holders; lifetime = l .lifetime; settled = l .settled }
 
 -- ---- the outbox's oldest payments
 -- the first of some payments, and the rest

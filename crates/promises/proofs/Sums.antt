@@ -1,4 +1,4 @@
--- Sums over lists: of two lists, without one element, and of all members' balances.
+-- Sums over lists: of one element, without one element, and of all members' balances.
 use Prim.Native.Nat.{ℕ, zero, suc, _+_, _-_, _*_, _≤_, _<_}
 use mathlib.Core.Path.{_≡_, refl, sym, ap, _∙_}
 use mathlib.Core.Logic.{_≢_}
@@ -14,16 +14,12 @@ use Rattle.rules.specs.Lists.{any, indexOf, sumOf}
 use Rattle.rules.specs.Effects.{balance, credit, debit}
 use Rattle.rules.specs.Sheet.{upFrom}
 use Rattle.rules.proofs.Facts.{Within}
-use Rattle.promises.proofs.Cells.{balance-credit, balance-debit}
-use Rattle.rules.proofs.Tests.{both}
+use Rattle.rules.proofs.Tests.{both, true-within}
+use Rattle.lots.proofs.ListLaws.{sum-append}
+use Rattle.lots.proofs.BalanceLaws.{balance-credit, balance-debit}
 
 module _ {A : Type 0} where
-  -- of two lists, and of one element
-  pub sum-append : (f : A → ℕ) (xs ys : List A) → sumOf f (xs ++ ys) ≡ sumOf f xs + sumOf f ys
-  unfolding sumOf
-  sum-append f [] ys = omega arith
-  sum-append f (x ∷ xs) ys = rw (sum-append f xs ys) (omega arith)
-
+  -- of one element
   pub sum-one : (f : A → ℕ) (x : A) → sumOf f (x ∷ []) ≡ f x
   unfolding sumOf
   sum-one f x = omega arith
@@ -103,7 +99,7 @@ module _ (bs : List ℕ) (m a x : ℕ) (size : length bs ≡ memberCount * asset
       go false v = omega arith
 
       each : (n : ℕ) → balance (credit bs m a x) n b ≡ balance bs n b + cond (eqb m n && eqb a b) x 0
-      each n = balance-credit bs m a size hm ha x n b ∙ go (eqb m n && eqb a b) (balance bs n b)
+      each n = balance-credit bs m a x n b size (true-within 1 16 m hm) (true-within 1 8 a ha) ∙ go (eqb m n && eqb a b) (balance bs n b)
 
   -- a debit takes its amount from the sum of its asset
   pub sum-debit : x ≤ balance bs m a → (b : ℕ) → allOf b bs ≡ allOf b (debit bs m a x) + cond (eqb a b) x 0
@@ -119,7 +115,7 @@ module _ (bs : List ℕ) (m a x : ℕ) (size : length bs ≡ memberCount * asset
       go n false e = omega arith
 
       each : (n : ℕ) → balance bs n b ≡ balance (debit bs m a x) n b + cond (eqb m n && eqb a b) x 0
-      each n = go n (eqb m n && eqb a b) refl ∙ ap (λ (v : ℕ). v + cond (eqb m n && eqb a b) x 0) (sym (balance-debit bs m a size hm ha x n b))
+      each n = go n (eqb m n && eqb a b) refl ∙ ap (λ (v : ℕ). v + cond (eqb m n && eqb a b) x 0) (sym (balance-debit bs m a x n b size (true-within 1 16 m hm) (true-within 1 8 a ha)))
 
 -- one member's balance is at most all members'
 pub in-sum : (f : ℕ → ℕ) (m first n : ℕ) → first ≤ m → m < first + n → f m ≤ sumOf f (upFrom first n)

@@ -1,18 +1,16 @@
--- Demand 1: every line is answered once, in order, with a number of the table; a refused call changes nothing; a line with an empty field is Malformed.
-use Prim.Native.Nat.{ℕ, _+_, _≤_}
-use mathlib.Core.Path.{_≡_}
-use mathlib.Core.Logic.{_≢_}
-use mathlib.Core.Bool.{Bool, true, not, _||_, cond}
-use mathlib.Core.List.{List, [], _∷_, _++_}
-use lib.Dec.{leb, eqb}
-use lib.ListN.{length, take}
-use Rattle.promises.specs.Types.{Call, Line}
-use Rattle.rules.specs.Limits.{mostLines}
-use Rattle.rules.specs.Lists.{all, any, those, joined}
-use Rattle.rules.specs.State.{Book, emptyBook}
-use Rattle.rules.specs.Answer.{Outcome, answer}
-use Rattle.rules.specs.Lines.{tab, lineFeed, fields, readLine}
-use Rattle.rules.specs.Transcript.{InputLine, linesFrom, inputLines, readInput, answerLine, replyText, endText, transcript}
+-- Words for demand 1: the numbers that each call can get, what the lines of an input get, and where the lines come from. What is promised of them stands in Promises.
+use Prim.Native.Nat.{ℕ, _+_}
+use mathlib.Core.Bool.{Bool, not, cond}
+use mathlib.Core.List.{List, [], _∷_, _++_, map}
+use lib.Dec.{eqb}
+use lib.ListN.{length}
+use Rattle.promises.specs.Types.{Call}
+use Rattle.rules.specs.Lists.{any, those}
+use Rattle.rules.specs.State.{Book, view, emptyBook}
+use Rattle.rules.specs.Refusals.{refusals}
+use Rattle.rules.specs.Answer.{Outcome, frameTest}
+use Rattle.rules.specs.Lines.{lineFeed}
+use Rattle.rules.specs.Transcript.{InputLine, inputLines, readInput, answerLine, replyText}
 
 -- ---- reply numbers
 -- the numbers that each call can get, as document 01's table and the calls' own fields have it
@@ -31,21 +29,9 @@ possible (Call.Trace n) = 0 ∷ 2 ∷ 20 ∷ 21 ∷ []
 abbrev pub isOneOf : ℕ → List ℕ → Bool
 isOneOf n ns = any (eqb n) ns
 
--- of any call on any book
-pub record Numbered (b : Book) (c : Call) : Type 0 where
-  pub oneOfItsOwn : isOneOf (answer b c .reply .number) (possible c) ≡ true
-  pub atMost : answer b c .reply .number ≤ 21
-
--- what a refused call leaves: the book as found, no values, no pieces
-pub record Unchanged (b : Book) (o : Outcome) : Type 0 where
-  pub book : o .book ≡ b
-  pub values : o .reply .values ≡ []
-  pub pieces : o .pieces ≡ []
-
--- of any line, read as a call or not, on any book
-pub record LineAnswered (b : Book) (l : Line) : Type 0 where
-  pub atMost : answerLine b l .reply .number ≤ 21
-  pub refused : answerLine b l .reply .number ≢ 0 → Unchanged b (answerLine b l)
+-- the refusals that apply to a call on a book, by their numbers
+abbrev pub applying : Book → Call → List ℕ
+applying b c = map (λ (r : ℕ × Bool). r .0) (those (λ (r : ℕ × Bool). r .1) (frameTest b c ∷ refusals (view b) c))
 
 -- ---- lines
 -- what each of these lines gets, in order, each from the book that the lines before it left
@@ -73,49 +59,11 @@ answered input = outcomes emptyBook (inputLines input)
 unfoldable pub lineFeeds : List ℕ → ℕ
 lineFeeds s = length (those (eqb lineFeed) s)
 
--- of any input: what is written is one reply for each line, numbered 1, 2, 3, .., and then the tally, whose two numbers sum to the count of lines; each reply and the tally is one line
-pub record Answers (input : List ℕ) : Type 0 where
-  pub text : transcript input ≡ replyTexts 1 (answered input) ++ endText (record { done = doneCount (answered input); other = otherCount (answered input) })
-  pub oneEach : length (answered input) ≡ length (inputLines input)
-  pub tally : doneCount (answered input) + otherCount (answered input) ≡ length (inputLines input)
-  pub atMost : length (inputLines input) ≤ mostLines
-  pub oneLine : (n : ℕ) (o : Outcome) → lineFeeds (replyText n o) ≡ 1
-  pub lines : lineFeeds (transcript input) ≡ length (inputLines input) + 1
-
 -- ---- where the lines come from
 -- the bytes that a line was read from
 abbrev pub asRead : InputLine → List ℕ
 asRead l = l .text ++ cond (l .finished) (lineFeed ∷ []) []
 
--- these lines are these bytes, cut after each of so many line feeds: put together again they are the bytes, none holds a line feed, as many are finished as there are line feeds, and one more that has a byte may follow
-pub record CutInto (read : List ℕ) (feeds : ℕ) (ls : List InputLine) : Type 0 where
-  pub whole : joined asRead ls ≡ read
-  pub noFeeds : all (λ l. eqb (lineFeeds (l .text)) 0) ls ≡ true
-  pub finished : all (λ l. l .finished) (take feeds ls) ≡ true
-  pub atLeast : feeds ≤ length ls
-  pub atMost : length ls ≤ feeds + 1
-  pub someByte : all (λ l. l .finished || leb 1 (length (l .text))) ls ≡ true
-
--- of any input; the book runner answers the first 100,000 of these lines
-abbrev pub Cut : List ℕ → Type 0
-Cut input = CutInto input (lineFeeds input) (linesFrom [] input)
-
 -- ---- empty fields
 abbrev pub isEmpty : List ℕ → Bool
 isEmpty f = eqb (length f) 0
-
--- a line one of whose fields is empty is Malformed, and so is one with two tabs together, or a tab first or last, whatever stands around them
-pub record EmptyFields : Type 0 where
-  pub someField : (s : List ℕ) → any isEmpty (fields s) ≡ true → readLine s ≡ Line.Malformed
-  pub twoTabs : (before after : List ℕ) → readLine (before ++ (tab ∷ tab ∷ after)) ≡ Line.Malformed
-  pub tabFirst : (after : List ℕ) → readLine (tab ∷ after) ≡ Line.Malformed
-  pub tabLast : (before : List ℕ) → readLine (before ++ (tab ∷ [])) ≡ Line.Malformed
-
--- ---- the whole
-pub record Demand1 : Type 0 where
-  pub numbers : (b : Book) (c : Call) → Numbered b c
-  pub refused : (b : Book) (c : Call) → answer b c .reply .number ≢ 0 → Unchanged b (answer b c)
-  pub lines : (b : Book) (l : Line) → LineAnswered b l
-  pub cut : (input : List ℕ) → Cut input
-  pub answers : (input : List ℕ) → Answers input
-  pub emptyFields : EmptyFields

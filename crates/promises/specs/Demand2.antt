@@ -1,37 +1,17 @@
--- Demand 2: after any calls from an empty book. The book is in frame; a call is accepted exactly if its facts hold; what is kept is what the history says; the balance sheet holds; numbers and nonces miss none and repeat none; and the payments leave in their order.
-use Prim.Native.Nat.{ℕ, _+_, _≤_, _<_}
-use mathlib.Core.Path.{_≡_}
-use mathlib.Core.Logic.{_≢_, _↔_}
-use mathlib.Core.Bool.{true, cond}
-use mathlib.Core.List.{List, [], _∷_, _++_, map}
+-- Words for demand 2: who holds a domain by the history, the payments that are queued and made, the accepted claims, and the pieces that a trace hands out. What is promised of them stands in Promises.
+use Prim.Native.Nat.{ℕ, _+_}
+use mathlib.Core.Bool.{Bool, _&&_, cond}
+use mathlib.Core.List.{List, [], _∷_, _++_}
 use lib.Dec.{eqb}
-use lib.ListN.{length, getD}
-use Rattle.promises.specs.Types.{Nonce, Payment, Record, Call, Answer}
-use Rattle.rules.proofs.Facts.{Accepted, Within, Fit}
-use Rattle.rules.specs.Limits.{memberCount, assetCount, domainCount}
+use lib.ListN.{take, drop, replicate}
+use Rattle.promises.specs.Types.{Nonce, Deposit, Payment, Record, Lot, ClaimFields, Call}
+use Rattle.rules.specs.Lists.{any}
 use Rattle.rules.specs.State.{Book, view, historyOf}
-use Rattle.rules.specs.Effects.{effect, balance, holder, total, oldest, paymentOf}
-use Rattle.rules.specs.Frame.{inFrame}
-use Rattle.rules.specs.History.{Kind, kindOf, provenanceOf, withdrawals, historyInFrame}
-use Rattle.rules.specs.Replies.{told}
-use Rattle.rules.specs.Answer.{answer, traceAnswer, provenanceAnswer}
-use Rattle.rules.specs.Runs.{run, gather, deposits, sends, settlements, sentAfter}
-use Rattle.rules.specs.Sheet.{upFrom, acceptedDeposits, settledSum, unclaimedSum, balancesSum, outboxSum, BalanceSheet, chainTotal}
-
--- ---- the frame
--- the book is in frame, its history too, so that no call, no trace and no question is ever answered 2 BadBook
-pub record InFrame (b : Book) : Type 0 where
-  pub book : inFrame b ≡ true
-  pub history : historyInFrame (historyOf b) ≡ true
-  pub noBadCall : (c : Call) → answer b c .reply .number ≢ 2
-  pub noBadTrace : (work out : List ℕ) (n : Nonce) → traceAnswer b work out n .reply .number ≢ 2
-  pub noBadQuestion : (m a : ℕ) → provenanceAnswer b m a .number ≢ 2
-
--- ---- acceptance
--- a call is accepted exactly if its facts hold (Facts): fields in their limits, the next number, enough, the holder, room; and what an accepted call leaves is its effect
-pub record Accepting (b : Book) (c : Call) : Type 0 where
-  pub exactly : Accepted b c ↔ Fit (view b) c
-  pub leaves : Accepted b c → view (answer b c .book) ≡ effect c (view b)
+use Rattle.rules.specs.Effects.{matches, paymentOf}
+use Rattle.rules.specs.History.{Kind, kindOf, byFirst, bySecond}
+use Rattle.rules.specs.Answer.{answer}
+use Rattle.rules.specs.Runs.{run, gather, sends}
+use Rattle.lots.specs.Traces.{nthWithdrawal}
 
 -- ---- what is kept, by the history alone
 -- who holds a domain, going by the grants: the one it was last granted to, and where it never was, the one who held it before
@@ -50,35 +30,10 @@ heldAfter before d (r ∷ rs) = heldAfter (heldAs (kindOf r) d r before) d rs
 abbrev pub holderBy : ℕ → List Record → ℕ
 holderBy d h = heldAfter 1 d h
 
--- every balance is the provenance, and the library question gives it; every holder is the one by the grants; the next nonce is the number of withdrawals
-pub record ByHistory (b : Book) : Type 0 where
-  pub balances : (m a : ℕ) → balance (b .desk .balances) m a ≡ provenanceOf m a (historyOf b)
-  pub asked : (m a : ℕ) → Within 1 memberCount m → Within 1 assetCount a
-      → provenanceAnswer b m a ≡ record { number = 0; values = balance (b .desk .balances) m a ∷ [] }
-  pub holders : (d : ℕ) → Within 1 domainCount d → holder (b .desk .holders) d ≡ holderBy d (historyOf b)
-  pub next : b .desk .next .0 ≡ withdrawals (historyOf b)
-
--- ---- the balance sheet, of any asset
-pub record Sheet (a : ℕ) (b : Book) (cs : List Call) : Type 0 where
-  pub sheet : BalanceSheet a b cs
-  -- the desk's two totals are the sums over the accepted calls
-  pub lifetime : total (run b cs .desk .lifetime) a ≡ acceptedDeposits a b cs
-  pub settled : total (run b cs .desk .settled) a ≡ settledSum a b cs
-  -- what has settled is never more than what was deposited, and the chain total is what the book still holds
-  pub less : settledSum a b cs ≤ acceptedDeposits a b cs
-  pub chain : chainTotal a b cs ≡ unclaimedSum a (run b cs) + balancesSum a (run b cs) + outboxSum a (run b cs)
-
 -- ---- numbers and nonces
+-- a payment's nonce
 abbrev pub nonceOf : Payment → ℕ
 nonceOf p = p .nonce .0
-
--- deposit numbers are 1, 2, 3, ..; the nonces of the payments sent and of those that wait are 0, 1, 2, .. up to the next nonce; and the payments sent are those that settled, then those in flight
-pub record InOrder (b : Book) (cs : List Call) : Type 0 where
-  pub numbers : map (λ d. d .number .0) (deposits b cs) ≡ upFrom 1 (length (deposits b cs))
-  pub last : run b cs .desk .last .0 ≡ length (deposits b cs)
-  pub nonces : map nonceOf (sends b cs ++ view (run b cs) .outside .waiting) ≡ upFrom 0 (run b cs .desk .next .0)
-  pub sentNonces : map nonceOf (sends b cs) ≡ upFrom 0 (length (sends b cs))
-  pub settled : sends b cs ≡ settlements b cs ++ view (run b cs) .outside .inflight
 
 -- ---- the queue
 -- the payment that a withdrawal queues
@@ -119,20 +74,63 @@ waitingIn b = view b .outside .waiting
 abbrev pub noPayment : Payment
 noPayment = record { asset = 0; amount = 0; payee = 0; nonce = record { 0 = 0 } }
 
--- from a book on, with any further calls: a send is accepted whenever something waits, and answers the oldest; what is sent and then waits is what waited and then was queued, in this order;
--- so "a waiting payment with k waiting before it is sent by the (k+1)th send", with its own nonce, asset, amount and payee; and k + 1 sends, accepted or not, suffice
-pub record Queue (b : Book) (further : List Call) : Type 0 where
-  pub accepted : 1 ≤ length (waitingIn b) → Accepted b Call.Send
-  pub answers : 1 ≤ length (waitingIn b) → answer b Call.Send .reply ≡ told (Answer.Sent (oldest (waitingIn b)))
-  pub order : sends b further ++ waitingIn (run b further) ≡ waitingIn b ++ queued b further
-  pub sent : (k : ℕ) → k < length (waitingIn b) → k < length (sends b further) → sentAfter k b further ≡ getD (waitingIn b) k noPayment ∷ []
-  pub suffice : (k : ℕ) → k < length (waitingIn b) → k < sendCalls further → k < length (sends b further)
+-- ---- claims
+-- the claim that a call makes
+unfoldable pub claiming : Book → Call → List ClaimFields
+claiming b (Call.Deposit d) = []
+claiming b (Call.Claim c) = c ∷ []
+claiming b (Call.Transfer t) = []
+claiming b (Call.Withdraw w) = []
+claiming b Call.Send = []
+claiming b (Call.Settle n) = []
+claiming b (Call.Grant g) = []
+claiming b (Call.Sign g) = []
+claiming b (Call.Trace n) = []
 
--- ---- the whole
-pub record Demand2 (b : Book) (cs : List Call) : Type 0 where
-  pub frame : InFrame (run b cs)
-  pub accepting : (c : Call) → Accepting (run b cs) c
-  pub byHistory : ByHistory (run b cs)
-  pub sheet : (a : ℕ) → Sheet a b cs
-  pub order : InOrder b cs
-  pub queue : (further : List Call) → Queue (run b cs) further
+-- the claims that were accepted, in order
+abbrev pub claims : Book → List Call → List ClaimFields
+claims b cs = gather claiming b cs
+
+-- a claim of the lot's deposit number, in the lot's asset, that met one of these deposits with exactly its four fields
+abbrev pub claimsLot : List Deposit → Lot → ClaimFields → Bool
+claimsLot ds l c = eqb (c .asset) (l .asset) && (eqb (c .number .0) (l .number .0) && any (matches c) ds)
+
+-- ---- payments
+-- the payments that were made: those sent, and then those that wait
+abbrev pub made : Book → List Call → List Payment
+made b cs = sends b cs ++ waitingIn (run b cs)
+
+-- the record of payment n: the history's withdrawal with n withdrawals before it
+abbrev pub recordOf : Book → List Call → Nonce → Record
+recordOf b cs n = nthWithdrawal (n .0) (historyOf (run b cs))
+
+-- the payment that a withdrawal's record stands for, with this nonce
+abbrev pub paymentBy : Record → Nonce → Payment
+paymentBy r n = record { asset = r .asset; amount = r .amount; payee = r .second; nonce = n }
+
+-- ---- traces
+-- the pieces that the trace of a nonce hands out
+abbrev pub traced : Book → List Call → Nonce → List Lot
+traced b cs n = answer (run b cs) (Call.Trace n) .pieces
+
+-- ---- coins: document 01's rule for traces said once more, with no lots and nothing split
+-- every member's line for every asset, coin by coin: each coin is the number of the deposit that it came from, and the oldest stands first
+abbrev pub CoinLines : Type 0
+CoinLines = ℕ → ℕ → List ℕ
+
+-- what a record makes of the lines: a claim puts as many coins as its amount at the end; a transfer moves the sender's first coins, in their order, to the end of the receiver's line; a withdrawal takes the first coins away
+unfoldable pub coinsAs : Kind → Record → CoinLines → CoinLines
+coinsAs Kind.claim r lines m a = cond (byFirst m a r) (lines m a ++ replicate (r .amount) (r .second)) (lines m a)
+coinsAs Kind.transfer r lines m a =
+    cond (bySecond m a r) (lines m a ++ take (r .amount) (lines (r .first) (r .asset))) (cond (byFirst m a r) (drop (r .amount) (lines m a)) (lines m a))
+coinsAs Kind.withdrawal r lines m a = cond (byFirst m a r) (drop (r .amount) (lines m a)) (lines m a)
+coinsAs Kind.grant r lines m a = lines m a
+coinsAs Kind.other r lines m a = lines m a
+
+unfoldable pub coinsAfter : CoinLines → List Record → CoinLines
+coinsAfter lines [] = lines
+coinsAfter lines (r ∷ rs) = coinsAfter (coinsAs (kindOf r) r lines) rs
+
+-- a member's line for an asset after these records, from an empty book on
+abbrev pub coinsIn : List Record → ℕ → ℕ → List ℕ
+coinsIn h m a = coinsAfter (λ m a. []) h m a

@@ -1,0 +1,225 @@
+-- What is promised, in the order of the demands, from top to bottom. Each promise is said in words and then exactly; the words that it cites are those of the rules (crate rules), of traces (crate lots), and of Demand1 and Demand2 beside this page.
+use Prim.Native.Nat.{ℕ, _+_, _/_, _≤_, _<_}
+use mathlib.Core.Path.{_≡_}
+use mathlib.Core.Logic.{_≢_, _↔_}
+use mathlib.Core.Bool.{true, false, _&&_, _||_}
+use mathlib.Core.List.{List, [], _∷_, _++_, map}
+use lib.Dec.{leb, eqb}
+use lib.ListN.{length, getD, take, drop}
+use Rattle.promises.specs.Types.{Nonce, Call, Line, Answer}
+use Rattle.rules.proofs.Facts.{Accepted, Within, Fit}
+use Rattle.rules.specs.Limits.{memberCount, assetCount, domainCount, historyRows, highestField, mostLines}
+use Rattle.rules.specs.Lists.{all, any, joined}
+use Rattle.rules.specs.Tables.{rowsOf, lotShape}
+use Rattle.rules.specs.State.{Book, Empty, view, historyOf}
+use Rattle.rules.specs.Replies.{told, plain}
+use Rattle.rules.specs.Effects.{effect, balance, holder, total, oldest, recordsOf}
+use Rattle.rules.specs.Frame.{inFrame}
+use Rattle.rules.specs.History.{provenanceOf, withdrawals, historyInFrame}
+use Rattle.rules.specs.Lots.{inLine}
+use Rattle.rules.specs.Answer.{Outcome, answer, traceAnswer, provenanceAnswer}
+use Rattle.rules.specs.Runs.{run, accepted, deposits, sends, settlements, sentAfter}
+use Rattle.rules.specs.Sheet.{upFrom, acceptedDeposits, settledSum, unclaimedSum, balancesSum, outboxSum, BalanceSheet, chainTotal}
+use Rattle.rules.specs.Views.{seenOutside, outsideView, seenBy, memberView, asks, hasRoom}
+use Rattle.rules.specs.Lines.{tab, fields, Numbers, numbers, readLine, numbersOf, writeLine}
+use Rattle.rules.specs.Transcript.{InputLine, linesFrom, inputLines, readInput, answerLine, replyText, endText, transcript}
+use Rattle.lots.specs.Traces.{worth, isPositive, coins, beforePayment}
+use Rattle.promises.specs.Demand1.{possible, isOneOf, applying, replyTexts, doneCount, otherCount, answered, lineFeeds, asRead, isEmpty}
+use Rattle.promises.specs.Demand2.{holderBy, nonceOf, queued, sendCalls, waitingIn, noPayment, claims, claimsLot, made, recordOf, paymentBy, traced, coinsIn}
+
+-- ======== Demand 1. "Every call on every book, and every input line up to line 100,000, ends with an answer from a fixed table. A refused call changes nothing. An absent number is refused, never read as nought."
+
+-- the number that a call on a book gets
+pub record Numbered (b : Book) (c : Call) : Type 0 where
+  -- it is one of those that document 01's table has for this call, at most 21
+  pub oneOfItsOwn : isOneOf (answer b c .reply .number) (possible c) ≡ true
+  pub atMost : answer b c .reply .number ≤ 21
+  -- a refusal that is given applies
+  pub applies : answer b c .reply .number ≢ 0 → isOneOf (answer b c .reply .number) (applying b c) ≡ true
+  -- "Where several of a call's refusals apply, the smallest number is given": beside each that applies, the number is not 0 and not above it
+  pub smallest : all (λ n. leb 1 (answer b c .reply .number) && leb (answer b c .reply .number) n) (applying b c) ≡ true
+
+-- the book is as found, and neither values nor pieces are told
+pub record Unchanged (b : Book) (o : Outcome) : Type 0 where
+  pub book : o .book ≡ b
+  pub values : o .reply .values ≡ []
+  pub pieces : o .pieces ≡ []
+
+-- the line, read as a call or not, gets a number up to 21, and changes nothing unless that is 0
+pub record LineAnswered (b : Book) (l : Line) : Type 0 where
+  pub atMost : answerLine b l .reply .number ≤ 21
+  pub refused : answerLine b l .reply .number ≢ 0 → Unchanged b (answerLine b l)
+
+-- these lines are these bytes, cut after each of so many line feeds: put together again they are the bytes, none holds a line feed, as many are finished as there are line feeds, and one more that has a byte may follow
+pub record CutInto (read : List ℕ) (feeds : ℕ) (ls : List InputLine) : Type 0 where
+  pub whole : joined asRead ls ≡ read
+  pub noFeeds : all (λ l. eqb (lineFeeds (l .text)) 0) ls ≡ true
+  pub finished : all (λ l. l .finished) (take feeds ls) ≡ true
+  pub atLeast : feeds ≤ length ls
+  pub atMost : length ls ≤ feeds + 1
+  pub someByte : all (λ l. l .finished || leb 1 (length (l .text))) ls ≡ true
+
+-- what is written is one reply for each of the first 100,000 lines, numbered 1, 2, 3, .., and then the tally, whose two numbers sum to the count of lines; each reply and the tally is one line
+pub record Answers (input : List ℕ) : Type 0 where
+  pub text : transcript input ≡ replyTexts 1 (answered input) ++ endText (record { done = doneCount (answered input); other = otherCount (answered input) })
+  pub oneEach : length (answered input) ≡ length (inputLines input)
+  pub tally : doneCount (answered input) + otherCount (answered input) ≡ length (inputLines input)
+  pub upTo : inputLines input ≡ take mostLines (linesFrom [] input)
+  pub oneLine : (n : ℕ) (o : Outcome) → lineFeeds (replyText n o) ≡ 1
+  pub lines : lineFeeds (transcript input) ≡ length (inputLines input) + 1
+
+-- a line one of whose fields is empty is Malformed, and so is one with two tabs together, or a tab first or last, whatever stands around them; a Malformed line gets 1, on every book
+pub record EmptyFields : Type 0 where
+  pub someField : (s : List ℕ) → any isEmpty (fields s) ≡ true → readLine s ≡ Line.Malformed
+  pub twoTabs : (before after : List ℕ) → readLine (before ++ (tab ∷ tab ∷ after)) ≡ Line.Malformed
+  pub tabFirst : (after : List ℕ) → readLine (tab ∷ after) ≡ Line.Malformed
+  pub tabLast : (before : List ℕ) → readLine (before ++ (tab ∷ [])) ≡ Line.Malformed
+  pub malformed : (b : Book) → answerLine b Line.Malformed .reply ≡ plain 1
+
+-- a finished line is read, and an unfinished one is Malformed; a call that is written as a line is read as that call; and the numbers of a call that is read are those of the fields after the word, as many and in the same order: none is read as nought that is not there
+pub record Reading : Type 0 where
+  pub finished : (s : List ℕ) → readInput (record { text = s; finished = true }) ≡ readLine s
+  pub unfinished : (s : List ℕ) → readInput (record { text = s; finished = false }) ≡ Line.Malformed
+  pub written : (c : Call) → all (λ n. leb n highestField) (numbersOf c) ≡ true → readLine (writeLine c) ≡ Line.Reads c
+  pub noneMissing : (s : List ℕ) (c : Call) → readLine s ≡ Line.Reads c → numbers (drop 1 (fields s)) ≡ Numbers.allRead (numbersOf c)
+
+pub record Demand1 : Type 0 where
+  -- every call on every book ends with an answer from the table
+  pub calls : (b : Book) (c : Call) → Numbered b c
+  -- a refused call changes nothing
+  pub refused : (b : Book) (c : Call) → answer b c .reply .number ≢ 0 → Unchanged b (answer b c)
+  -- the same of every line on every book
+  pub lines : (b : Book) (l : Line) → LineAnswered b l
+  -- every input, whatever its bytes, is cut into lines
+  pub cut : (input : List ℕ) → CutInto input (lineFeeds input) (linesFrom [] input)
+  -- and every one of them up to line 100,000 is answered, once and in order
+  pub answers : (input : List ℕ) → Answers input
+  -- an absent number is refused
+  pub emptyFields : EmptyFields
+  -- never read as nought
+  pub reading : Reading
+
+-- ======== Demand 2. "From an empty book, every answer, balance, queue, record and trace is what the rules give, and each kept balance equals the provenance worked out from the history alone."
+
+-- the book is in frame, its history too, so that no call, no trace and no question is answered 2 BadBook
+pub record InFrame (b : Book) : Type 0 where
+  pub book : inFrame b ≡ true
+  pub history : historyInFrame (historyOf b) ≡ true
+  pub noBadCall : (c : Call) → answer b c .reply .number ≢ 2
+  pub noBadTrace : (work out : List ℕ) (n : Nonce) → traceAnswer b work out n .reply .number ≢ 2
+  pub noBadQuestion : (m a : ℕ) → provenanceAnswer b m a .number ≢ 2
+
+-- the call is accepted exactly if its facts hold (Facts): fields in their limits, the next number, enough, the holder, room; and what an accepted call leaves is its effect
+pub record Accepting (b : Book) (c : Call) : Type 0 where
+  pub exactly : Accepted b c ↔ Fit (view b) c
+  pub leaves : Accepted b c → view (answer b c .book) ≡ effect c (view b)
+
+-- every balance is the provenance, and the library question gives it; every holder is the one by the grants; the next nonce is the number of withdrawals
+pub record ByHistory (b : Book) : Type 0 where
+  pub balances : (m a : ℕ) → balance (b .desk .balances) m a ≡ provenanceOf m a (historyOf b)
+  pub asked : (m a : ℕ) → Within 1 memberCount m → Within 1 assetCount a
+      → provenanceAnswer b m a ≡ record { number = 0; values = balance (b .desk .balances) m a ∷ [] }
+  pub holders : (d : ℕ) → Within 1 domainCount d → holder (b .desk .holders) d ≡ holderBy d (historyOf b)
+  pub next : b .desk .next .0 ≡ withdrawals (historyOf b)
+
+-- the balance sheet of an asset; the desk's two totals are the sums over the accepted calls; what has settled is never more than what was deposited, and the chain total is what the book still holds
+pub record Sheet (a : ℕ) (b : Book) (cs : List Call) : Type 0 where
+  pub sheet : BalanceSheet a b cs
+  pub lifetime : total (run b cs .desk .lifetime) a ≡ acceptedDeposits a b cs
+  pub settled : total (run b cs .desk .settled) a ≡ settledSum a b cs
+  pub less : settledSum a b cs ≤ acceptedDeposits a b cs
+  pub chain : chainTotal a b cs ≡ unclaimedSum a (run b cs) + balancesSum a (run b cs) + outboxSum a (run b cs)
+
+-- deposit numbers are 1, 2, 3, ..; the nonces of the payments made, sent and waiting, are 0, 1, 2, .. up to the next nonce; and the payments sent are those that settled, then those in flight
+pub record InOrder (b : Book) (cs : List Call) : Type 0 where
+  pub numbers : map (λ d. d .number .0) (deposits b cs) ≡ upFrom 1 (length (deposits b cs))
+  pub last : run b cs .desk .last .0 ≡ length (deposits b cs)
+  pub nonces : map nonceOf (made b cs) ≡ upFrom 0 (run b cs .desk .next .0)
+  pub sentNonces : map nonceOf (sends b cs) ≡ upFrom 0 (length (sends b cs))
+  pub settled : sends b cs ≡ settlements b cs ++ view (run b cs) .outside .inflight
+
+-- the queue of a book, whatever calls come next
+pub record Queue (b : Book) (further : List Call) : Type 0 where
+  -- a send is accepted whenever something waits, and answers the oldest
+  pub accepted : 1 ≤ length (waitingIn b) → Accepted b Call.Send
+  pub answers : 1 ≤ length (waitingIn b) → answer b Call.Send .reply ≡ told (Answer.Sent (oldest (waitingIn b)))
+  -- what is sent and then waits is what waited and then was queued, in this order
+  pub order : sends b further ++ waitingIn (run b further) ≡ waitingIn b ++ queued b further
+  -- "A waiting payment with k waiting before it is sent by the (k+1)th send", with its own nonce, asset, amount and payee
+  pub sent : (k : ℕ) → k < length (waitingIn b) → k < length (sends b further) → sentAfter k b further ≡ getD (waitingIn b) k noPayment ∷ []
+  -- and k + 1 sends, accepted or not, suffice
+  pub suffice : (k : ℕ) → k < length (waitingIn b) → k < sendCalls further → k < length (sends b further)
+
+-- payment n, and its trace
+pub record PaymentTraced (b : Book) (cs : List Call) (n : Nonce) : Type 0 where
+  -- the payment made with n before it is the withdrawal with n withdrawals before it in the history, and carries nonce n
+  pub payment : getD (made b cs) (n .0) noPayment ≡ paymentBy (recordOf b cs n) n
+  -- its trace is Done, with the count of the pieces
+  pub done : answer (run b cs) (Call.Trace n) .reply ≡ record { number = 0; values = length (traced b cs n) ∷ [] }
+  -- the pieces sum to the amount
+  pub amount : worth (traced b cs n) ≡ recordOf b cs n .amount
+  -- each is of the payer and of the payment's asset, and none is of nothing
+  pub owned : all (inLine (recordOf b cs n .first) (recordOf b cs n .asset)) (traced b cs n) ≡ true
+  pub positive : all isPositive (traced b cs n) ≡ true
+  -- each is from a deposit that was accepted, and claimed by an accepted claim with exactly its four fields
+  pub sourced : all (λ l. any (claimsLot (deposits b cs) l) (claims b cs)) (traced b cs n) ≡ true
+  -- coin by coin they are the oldest in the payer's line, as the records before the payment left it
+  pub oldestFirst : coins (traced b cs n)
+      ≡ take (recordOf b cs n .amount) (coinsIn (beforePayment (n .0) (historyOf (run b cs))) (recordOf b cs n .first) (recordOf b cs n .asset))
+  -- a trace that is lent its two tables gives the same reply, and the same pieces in the first rows of theirs
+  pub lent : (work out : List ℕ) → historyRows ≤ length work / lotShape .width → historyRows ≤ length out / lotShape .width
+      → (traceAnswer (run b cs) work out n .reply ≡ answer (run b cs) (Call.Trace n) .reply)
+      × (rowsOf lotShape (length (traced b cs n)) (traceAnswer (run b cs) work out n .pieces) ≡ traced b cs n)
+
+-- after any calls from an empty book
+pub record Demand2 (b : Book) (cs : List Call) : Type 0 where
+  -- the book stays in frame
+  pub frame : InFrame (run b cs)
+  -- every answer is what the rules give, and so is what every accepted call leaves
+  pub accepting : (c : Call) → Accepting (run b cs) c
+  -- every record is what the rules give: the history is the records of the accepted calls, in order
+  pub records : historyOf (run b cs) ≡ joined recordsOf (accepted b cs)
+  -- each kept balance equals the provenance worked out from the history alone, and so for holders and the next nonce
+  pub byHistory : ByHistory (run b cs)
+  -- the balance sheet holds for each asset
+  pub sheet : (a : ℕ) → Sheet a b cs
+  -- numbers and nonces miss none and repeat none
+  pub order : InOrder b cs
+  -- whatever calls come next, the queue is served in its order
+  pub queue : (further : List Call) → Queue (run b cs) further
+  -- there are as many payments as withdrawals in the history, and every one has its trace
+  pub payments : length (made b cs) ≡ withdrawals (historyOf (run b cs))
+  pub traces : (n : Nonce) → n .0 < run b cs .desk .next .0 → PaymentTraced b cs n
+
+-- ======== Demand 3. "Two runs that agree on what the outside may see look the same from outside; two runs that agree on what names one member look the same to that member."
+-- All of it is said over `accepted`, `run` and `answer`, the definitions of demand 2, and over nothing weaker: a ledger that refuses all calls, or that replies rightly and stores nothing, would have such a property too, but its calls are not accepted, or its books not left, as `answer` says, so it does not meet demand 2.
+
+-- the outside: if the accepted deposits, withdrawals (the member aside), sends and settlements are the same, in order, then so are the payments in flight and waiting, the next nonce, the answers of the sends, the settlements, and every asset's chain total
+abbrev pub OutsideTold : Type 0
+OutsideTold = (b b′ : Book) → Empty b → Empty b′ → (cs cs′ : List Call) → seenOutside b cs ≡ seenOutside b′ cs′ → outsideView b cs ≡ outsideView b′ cs′
+
+-- a member, 1 to 16 (or any number: nothing turns on it): if the accepted calls that name the member, deposits for the member among them, are the same, in order, then so are the eight balances, the unclaimed deposits, the domains held, and the statement
+abbrev pub MemberTold : Type 0
+MemberTold = (m : ℕ) (b b′ : Book) → Empty b → Empty b′ → (cs cs′ : List Call) → seenBy m b cs ≡ seenBy m b′ cs′ → memberView m b cs ≡ memberView m b′ cs′
+
+-- the member's next call: if moreover neither book has a full history or a full outbox, then the member's next claim, transfer, withdrawal, grant or sign request gets the same reply from both, Done or refused
+abbrev pub MemberAnswered : Type 0
+MemberAnswered =
+    (m : ℕ) (b b′ : Book) → Empty b → Empty b′ → (cs cs′ : List Call) → seenBy m b cs ≡ seenBy m b′ cs′
+    → (c : Call) → asks m c ≡ true → hasRoom (view (run b cs)) ≡ true → hasRoom (view (run b′ cs′)) ≡ true
+    → answer (run b cs) c .reply ≡ answer (run b′ cs′) c .reply
+
+-- for every two lists of calls, from any two empty books
+pub record Demand3 : Type 0 where
+  -- they look the same from outside
+  pub outside : OutsideTold
+  -- they look the same to that member
+  pub member : MemberTold
+  -- and go on to do so
+  pub next : MemberAnswered
+
+-- ======== the whole
+pub record Promises : Type 0 where
+  pub demand1 : Demand1
+  pub demand2 : (b : Book) (cs : List Call) → Empty b → Demand2 b cs
+  pub demand3 : Demand3
