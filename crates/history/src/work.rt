@@ -71,7 +71,8 @@ pub fn clear(t: &mut [u64])
     }
 }
 
-// What becomes of one lot of a taking: "until the amount is met; the last lot is split if need be, its remainder staying in front"
+// What becomes of one lot of a taking: "until the amount is met; the last lot is split if need be, its
+// remainder staying in front"
 fn cut_lot(l: Lot, member: u64, asset: u64, s: Taking) -> Cut
     requires { ⌜ s .kept < 1024 ⌝ }
     requires { ⌜ s .taken < 1024 ⌝ }
