@@ -11,7 +11,7 @@ use Rattle.rules.specs.Effects.{balance}
 use Rattle.rules.specs.Frame.{inFrame}
 use Rattle.rules.proofs.Told.{once}
 use Rattle.desk.specs.Parts.{ofEight, isDone}
-use Rattle.desk.specs.Kept.{balanceKept, holderKept, lifetimeKept, settledKept}
+use Rattle.desk.specs.Kept.{eightSet}
 
 pub field-once : (test : ℕ → Bool) (x : ℕ) {r r′ : Bool} → r ≡ test x → r′ ≡ test x → r ≡ r′
 field-once test x = once (test x)
@@ -34,3 +34,6 @@ in-frame-once b = once (inFrame b)
 -- with_balance, with_holder, with_lifetime, with_settled
 pub kept-once : (kept : Desk) {r r′ : Desk} → r ≡ kept → r′ ≡ kept → r ≡ r′
 kept-once kept = once kept
+
+pub eight-with-once : (xs : List ℕ) (i x : ℕ) {r r′ : List ℕ} → r ≡ eightSet xs i x → r′ ≡ eightSet xs i x → r ≡ r′
+eight-with-once xs i x = once (eightSet xs i x)

@@ -4,7 +4,7 @@ use crate::fields::is_member;
 use crate::fields::is_within;
 use rules::desk::Desk;
 ghost use mathlib.Core.Path.{_≡_};
-ghost use Rattle.desk.specs.Kept.{balanceKept, holderKept, lifetimeKept, settledKept};
+ghost use Rattle.desk.specs.Kept.{eightSet, balanceKept, holderKept, lifetimeKept, settledKept};
 
 pub fn with_balance(d: Desk, m: u64, a: u64, x: u64) -> Desk
     ensures { λ r. ⌜ r ≡ balanceKept d m a x ⌝ }
@@ -18,38 +18,45 @@ pub fn with_balance(d: Desk, m: u64, a: u64, x: u64) -> Desk
     next
 }
 
+// Of eight numbers, one for each asset or each domain, the one for number i kept anew.
+pub fn eight_with(xs: [u64; 8], i: u64, x: u64) -> [u64; 8]
+    ensures { λ r. ⌜ r ≡ eightSet xs i x ⌝ }
+{
+    if !is_within(1, 8, i) {
+        return xs;
+    }
+    let at = (i - 1) as usize;
+    let mut next = xs;
+    next[at] = x;
+    next
+}
+
 pub fn with_holder(d: Desk, domain: u64, m: u64) -> Desk
     ensures { λ r. ⌜ r ≡ holderKept d domain m ⌝ }
 {
-    if !is_within(1, 8, domain) {
-        return d;
-    }
-    let at = (domain - 1) as usize;
+    let holders = d.holders;
+    let kept = eight_with(holders, domain, m);
     let mut next = d;
-    next.holders[at] = m;
+    next.holders = kept;
     next
 }
 
 pub fn with_lifetime(d: Desk, a: u64, x: u64) -> Desk
     ensures { λ r. ⌜ r ≡ lifetimeKept d a x ⌝ }
 {
-    if !is_within(1, 8, a) {
-        return d;
-    }
-    let at = (a - 1) as usize;
+    let lifetime = d.lifetime;
+    let kept = eight_with(lifetime, a, x);
     let mut next = d;
-    next.lifetime[at] = x;
+    next.lifetime = kept;
     next
 }
 
 pub fn with_settled(d: Desk, a: u64, x: u64) -> Desk
     ensures { λ r. ⌜ r ≡ settledKept d a x ⌝ }
 {
-    if !is_within(1, 8, a) {
-        return d;
-    }
-    let at = (a - 1) as usize;
+    let settled = d.settled;
+    let kept = eight_with(settled, a, x);
     let mut next = d;
-    next.settled[at] = x;
+    next.settled = kept;
     next
 }

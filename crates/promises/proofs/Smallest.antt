@@ -13,6 +13,7 @@ use Rattle.rules.specs.State.{Book, view}
 use Rattle.rules.specs.Replies.{numberOf, smaller, smallest}
 use Rattle.rules.specs.Refusals.{refusals, traceRefusals}
 use Rattle.rules.specs.Answer.{frameTest, replyNumber}
+use Rattle.rules.proofs.Accepts.{table-numbered}
 use Rattle.rules.proofs.Digits.{all-imply}
 use Rattle.rules.proofs.Tests.{both, both-of, numbered}
 use Rattle.promises.specs.Demand1.{isOneOf, applying}
@@ -74,19 +75,6 @@ smallest-holds (r ∷ rs) h = go (r .1) (smallest rs) h (smallest-holds rs)
             let m : min (r .0) (suc y) ≡ suc y = omega (arith, leb-false (r .0) (suc y) e) in
             rw (m, i (omega arith)) (or-true (eqb (suc y) (r .0)))
     go false x d i = i d
-
--- every number of a call's table is a refusal's
-table-numbered : (b : Book) (c : Call) → numbered (frameTest b c ∷ refusals (view b) c) ≡ true
-unfolding all frameTest refusals traceRefusals numberOf
-table-numbered b (Call.Deposit d) = refl
-table-numbered b (Call.Claim c) = refl
-table-numbered b (Call.Transfer t) = refl
-table-numbered b (Call.Withdraw w) = refl
-table-numbered b Call.Send = refl
-table-numbered b (Call.Settle n) = refl
-table-numbered b (Call.Grant g) = refl
-table-numbered b (Call.Sign g) = refl
-table-numbered b (Call.Trace n) = refl
 
 -- so the number that a call gets
 pub number-applies : (b : Book) (c : Call) → replyNumber b c ≢ 0 → isOneOf (replyNumber b c) (applying b c) ≡ true

@@ -24,7 +24,7 @@ use Rattle.rules.proofs.Tests.{twice-not, not-holds, neither, within-tr
 
 -- ---- what acceptance gives
 -- every number in a call's table, BadBook's too, is a refusal's
-table-numbered : (b : Book) (c : Call) → numbered (frameTest b c ∷ refusals (view b) c) ≡ true
+pub table-numbered : (b : Book) (c : Call) → numbered (frameTest b c ∷ refusals (view b) c) ≡ true
 unfolding all frameTest refusals traceRefusals numberOf
 table-numbered b (Call.Deposit d) = refl
 table-numbered b (Call.Claim c) = refl
