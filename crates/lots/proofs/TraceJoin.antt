@@ -31,7 +31,7 @@ ands-at (t ∷ ts) zero h = and-eq-true-iff t (ands ts) .0 h .0
 ands-at (t ∷ ts) (suc k) h = ands-at ts k (and-eq-true-iff t (ands ts) .0 h .1)
 
 -- a book in frame has at most as many records as the table has rows
-records-fit : (b : Book) → inFrame b ≡ true → length (historyOf b) ≤ historyRows
+pub records-fit : (b : Book) → inFrame b ≡ true → length (historyOf b) ≤ historyRows
 unfolding inFrame
 records-fit b h = rw (length-rows recordShape (b .desk .records) (b .history)) (leb-true (b .desk .records) historyRows (ands-at _ 5 h))
 

@@ -1,1 +1,6 @@
+pub mod Closing
 pub mod Cuts
+pub mod Feeds
+pub mod Pages
+pub mod Room
+pub mod Steps

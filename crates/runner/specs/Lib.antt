@@ -1,1 +1,4 @@
+pub mod Feeding
 pub mod Machine
+pub mod Running
+pub mod Step

@@ -1,1 +1,5 @@
-// The book runner.
+// The book runner: one call after another, line after line.
+pub mod feed;
+pub mod running;
+pub mod start;
+pub mod step;

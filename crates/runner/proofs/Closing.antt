@@ -1,0 +1,39 @@
+-- The end of the input: what is held of a last line is Malformed, and the tally comes last.
+use Prim.Native.Nat.{ℕ, zero, suc, _+_, _≤_, _<_}
+use mathlib.Core.Path.{_≡_, refl, sym, ap, _∙_}
+use mathlib.Core.List.{List, [], _∷_, _++_}
+use native.Mathlib.Omega.{arith}
+use lib.ListN.{length, take}
+use borrow.Author.Tests.{lt-ltb, le-ltb}
+use Rattle.rules.specs.declared.calls.Line.{Line}
+use Rattle.rules.specs.declared.answers.Answer.{Answer}
+use Rattle.rules.specs.declared.answers.Refusal.{Refusal}
+use Rattle.rules.specs.declared.answers.Tally.{Tally}
+use Rattle.rules.specs.Replies.{told, numberOf}
+use Rattle.rules.specs.Transcript.{answerLine, tallied, endText}
+use Rattle.lines.specs.Writing.{Page, put, replyLine}
+use Rattle.lines.proofs.PageLaws.{put-then, reply-line}
+use Rattle.runner.specs.declared.running.Running.{Running}
+use Rattle.runner.specs.Machine.{Machine, outcomeFor, unfinished, unfinishedText, ended, closing}
+use Rattle.runner.specs.Running.{machineOf}
+
+abbrev malformed : Answer
+malformed = Answer.Refused Refusal.Malformed
+
+module _ (run : Running) (i o h hold : List ℕ) (p : Page) where
+  pub closed-stopped : (n : ℕ) → 100000 < run .line → {q : Page} → q ≡ put p (endText (run .tally)) → q ≡ put p (closing (machineOf run i o h (take n hold)))
+  unfolding closing ended
+  closed-stopped n s e = rw (lt-ltb 100000 (run .line) s) e
+
+  pub closed-whole : (n : ℕ) → run .line ≤ 100000 → n ≡ 0 → {q : Page} → q ≡ put p (endText (run .tally)) → q ≡ put p (closing (machineOf run i o h (take n hold)))
+  unfolding closing ended unfinished unfinishedText
+  closed-whole n s z e = rw (z, le-ltb 100000 (run .line) s) e
+
+pub closed-unfinished : (run : Running) (i o h hold : List ℕ) (p : Page) (n : ℕ) → run .line ≤ 100000 → (n ≡ 0 → ⊥) → length hold ≡ 121 → {q r : Page} (t : Tally) → q ≡ put p (replyLine (run .line) (told malformed)) → t ≡ tallied (run .tally) 1
+    → r ≡ put q (endText t) → r ≡ put p (closing (machineOf run i o h (take n hold)))
+unfolding closing ended unfinished unfinishedText answerLine told numberOf
+closed-unfinished run i o h hold p zero s z l t e c f = absurd (z refl)
+closed-unfinished run i o h [] p (suc n) s z l t e c f = absurd (omega arith)
+closed-unfinished run i o h (x ∷ hold) p (suc n) s z l t e c f =
+    rw (le-ltb 100000 (run .line) s, reply-line (run .line) (outcomeFor (machineOf run i o h (x ∷ take n hold)) Line.Malformed) refl, ← c)
+    (put-then p (replyLine (run .line) (told malformed)) (endText t) e f)

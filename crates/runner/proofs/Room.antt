@@ -1,0 +1,168 @@
+-- No reply is too long for the room that is kept for it, and where there is room a text is written whole.
+use Prim.Native.Nat.{ℕ, zero, suc, _+_, _*_, _/_, _%_, _-_, _≤_, _<_}
+use mathlib.Core.Path.{_≡_, refl, sym, ap, _∙_}
+use mathlib.Core.Bool.{Bool, true, false, cond}
+use mathlib.Core.List.{List, [], _∷_, _++_, append-nil, append-assoc}
+use native.Mathlib.Omega.{arith}
+use lib.Dec.{leb, ltb, eqb}
+use lib.ListN.{length, take, set, length-append, length-set}
+use lib.Seq.{take-suc-set}
+use borrow.Author.Tests.{leb-true, lt-ltb}
+use Rattle.rules.specs.declared.rows.Lot.{Lot}
+use Rattle.rules.specs.Lists.{joined}
+use Rattle.rules.specs.Lines.{lineFeed, tab, spelled, decimal, tabbed, readLine}
+use Rattle.rules.specs.declared.calls.Call.{Call}
+use Rattle.rules.specs.declared.calls.Line.{Line}
+use Rattle.rules.specs.declared.answers.Answer.{Answer}
+use Rattle.rules.specs.declared.answers.Refusal.{Refusal}
+use Rattle.rules.specs.State.{Book, view, historyOf}
+use Rattle.rules.specs.Replies.{told, if-done}
+use Rattle.rules.specs.Answer.{Outcome, answer, replyNumber, replyWith, piecesOf, doneAnswer}
+use Rattle.rules.proofs.Facts.{Accepted}
+use Rattle.rules.proofs.Accepts.{accepted-frame}
+use Rattle.lots.proofs.LotCounts.{pieces-count}
+use Rattle.lots.proofs.TraceJoin.{records-fit}
+use Rattle.rules.specs.Transcript.{pieceValues, replyText, answerLine}
+use Rattle.runner.specs.Machine.{Machine, stopped, outcomeFor, written}
+use Rattle.lines.specs.Writing.{Page, page, putByte, put}
+
+-- a number has at most 20 digits
+one-more : (t : Bool) (k a b : ℕ) (ds : List ℕ) → length ds ≤ k → length (cond t (a ∷ []) (ds ++ (b ∷ []))) ≤ suc k
+one-more true k a b ds h = omega arith
+one-more false k a b ds h = let e = length-append ds (b ∷ []) in omega arith
+
+spelled-length : (k n : ℕ) → length (spelled k n) ≤ k
+unfolding spelled
+spelled-length zero n = omega arith
+spelled-length (suc k) n = one-more (ltb n 10) k (48 + n) (48 + n % 10) (spelled k (n / 10)) (spelled-length k (n / 10))
+
+decimal-length : (n : ℕ) → length (decimal n) ≤ 20
+unfolding decimal
+decimal-length n = spelled-length 20 n
+
+tabbed-length : (ns : List ℕ) → length (tabbed ns) ≤ 21 * length ns
+unfolding tabbed joined
+tabbed-length [] = omega arith
+tabbed-length (n ∷ ns) =
+    let e = length-append (tab ∷ decimal n) (tabbed ns) in
+    let d = decimal-length n in
+    let i = tabbed-length ns in
+    omega arith
+
+pieces-length : (ls : List Lot) → length (joined pieceValues ls) ≡ 2 * length ls
+unfolding joined
+pieces-length [] = refl
+pieces-length (l ∷ ls) = let i = pieces-length ls in omega arith
+
+line-length : (n m : ℕ) (vs : List ℕ) (ps : List Lot) → length vs ≤ 4 → length ps ≤ 1024
+    → length (decimal n ++ tabbed (m ∷ vs ++ joined pieceValues ps) ++ (lineFeed ∷ [])) ≤ 43134
+line-length n m vs ps v p =
+    let x = decimal-length n in
+    let y = tabbed-length ((m ∷ vs) ++ joined pieceValues ps) in
+    let z = length-append (m ∷ vs) (joined pieceValues ps) in
+    let w = pieces-length ps in
+    simp (length-append) (omega (arith, x, y, z, w))
+
+pub reply-length : (n : ℕ) (o : Outcome) → length (o .reply .values) ≤ 4 → length (o .pieces) ≤ 1024 → length (replyText n o) ≤ 43134
+unfolding replyText
+reply-length n o v p = line-length n (o .reply .number) (o .reply .values) (o .pieces) v p
+
+-- ---- a text with room for it
+put-room : (o : List ℕ) (at b : ℕ) → at < length o → putByte (page o at) b ≡ page (set o at b) (suc at)
+unfolding putByte
+put-room o at b h = let e = lt-ltb at (length o) h in rw e (ap (page (set o at b)) (omega arith))
+
+-- what the page then holds up to its place, and where that is
+pub put-whole : (o : List ℕ) (at : ℕ) (text : List ℕ) → at + length text ≤ length o
+    → take (put (page o at) text .upto) (put (page o at) text .bytes) ≡ take at o ++ text
+unfolding put
+put-whole o at [] h = sym (append-nil (take at o))
+put-whole o at (b ∷ text) h =
+    ap (λ (p : Page). take (put p text .upto) (put p text .bytes)) (put-room o at b (omega arith))
+    ∙ put-whole (set o at b) (suc at) text (let e = length-set o at b in omega arith)
+    ∙ ap (λ (t : List ℕ). t ++ text) (take-suc-set o at b (omega arith))
+    ∙ append-assoc (take at o) (b ∷ []) text
+
+pub put-upto : (o : List ℕ) (at : ℕ) (text : List ℕ) → at + length text ≤ length o
+    → put (page o at) text .upto ≡ at + length text
+unfolding put
+put-upto o at [] h = omega arith
+put-upto o at (b ∷ text) h =
+    ap (λ (p : Page). put p text .upto) (put-room o at b (omega arith))
+    ∙ put-upto (set o at b) (suc at) text (let e = length-set o at b in omega arith)
+    ∙ (omega arith)
+
+pub put-size : (p : Page) (text : List ℕ) → length (put p text .bytes) ≡ length (p .bytes)
+unfolding put putByte
+put-size p [] = refl
+put-size p (b ∷ text) = put-size (putByte p b) text ∙ length-set (p .bytes) (p .upto) b
+
+-- ---- what a line is answered
+values-few : (a : Answer) → length (told a .values) ≤ 4
+unfolding told
+values-few Answer.Done = omega arith
+values-few (Answer.Sent p) = omega arith
+values-few (Answer.Traced n) = omega arith
+values-few (Answer.Refused r) = omega arith
+
+reply-few : (n : ℕ) (a : Answer) → length (replyWith n (told a) .values) ≤ 4
+reply-few zero a = values-few a
+reply-few (suc n) a = omega arith
+
+pieces-few : (b : Book) (c : Call) → Accepted b c → length (piecesOf (view b) c) ≤ 1024
+unfolding piecesOf view
+pieces-few b (Call.Deposit d) a = omega arith
+pieces-few b (Call.Claim c) a = omega arith
+pieces-few b (Call.Transfer t) a = omega arith
+pieces-few b (Call.Withdraw w) a = omega arith
+pieces-few b Call.Send a = omega arith
+pieces-few b (Call.Settle n) a = omega arith
+pieces-few b (Call.Grant g) a = omega arith
+pieces-few b (Call.Sign g) a = omega arith
+pieces-few b (Call.Trace n) a =
+    let x = records-fit b (accepted-frame b (Call.Trace n) a) in
+    let y = pieces-count (historyOf b) n in
+    omega arith
+
+done-few : (n : ℕ) (ps : List Lot) → (n ≡ 0 → length ps ≤ 1024) → length (if-done n ps []) ≤ 1024
+done-few zero ps h = h refl
+done-few (suc n) ps h = omega arith
+
+line-fits : (n : ℕ) (b : Book) (l : Line) → length (replyText n (answerLine b l)) ≤ 43134
+unfolding answerLine answer
+line-fits n b (Line.Reads c) =
+    reply-length n (answer b c) (reply-few (replyNumber b c) (doneAnswer (view b) c))
+    (done-few (replyNumber b c) (piecesOf (view b) c) (λ e. pieces-few b c (record { done = e })))
+line-fits n b Line.Malformed = reply-length n (answerLine b Line.Malformed) (values-few (Answer.Refused Refusal.Malformed)) (omega arith)
+
+-- no byte makes the machine write more
+pub written-fits : (m : Machine) (b : ℕ) → length (written m b) ≤ 43134
+unfolding written
+written-fits m b = go (stopped m) (eqb b lineFeed)
+  where
+    go : (t u : Bool) → length (cond t [] (cond u (replyText (m .line) (outcomeFor m (readLine (m .held)))) [])) ≤ 43134
+    go true u = omega arith
+    go false true = line-fits (m .line) (m .book) (readLine (m .held))
+    go false false = omega arith
+
+-- ---- a page on which all is written that was to be
+pub whole : (o o₀ : List ℕ) (at at₀ : ℕ) (text : List ℕ) → page o at ≡ put (page o₀ at₀) text → at₀ + length text ≤ length o₀
+    → (take at o ≡ take at₀ o₀ ++ text) × (at ≤ length o)
+whole o o₀ at at₀ text e h =
+    let x : at ≡ put (page o₀ at₀) text .upto = ap (λ (p : Page). p .upto) e in
+    let y : o ≡ put (page o₀ at₀) text .bytes = ap (λ (p : Page). p .bytes) e in
+    let u = put-upto o₀ at₀ text h in
+    let z : length o ≡ length o₀ = ap (λ (t : List ℕ). length t) y ∙ put-size (page o₀ at₀) text in
+    (rw (x, y) (put-whole o₀ at₀ text h), omega (arith, x, u, z, h))
+
+pub fits-more : (m : Machine) (b : ℕ) (o o₀ : List ℕ) (at at₀ : ℕ) (text : List ℕ) → page o at ≡ put (page o₀ at₀) text → at₀ + length text ≤ length o₀
+    → leb 45000 (length o - at) ≡ true → at₀ + length (text ++ written m b) ≤ length o₀
+fits-more m b o o₀ at at₀ text e h r =
+    let x : at ≡ put (page o₀ at₀) text .upto = ap (λ (p : Page). p .upto) e in
+    let y : o ≡ put (page o₀ at₀) text .bytes = ap (λ (p : Page). p .bytes) e in
+    let u = put-upto o₀ at₀ text h in
+    let z : length o ≡ length o₀ = ap (λ (t : List ℕ). length t) y ∙ put-size (page o₀ at₀) text in
+    let w = written-fits m b in
+    let l = length-append text (written m b) in
+    let q = leb-true 45000 (length o - at) r in
+    omega (arith, x, u, z, w, l, q, h)

@@ -1,0 +1,84 @@
+use native.Mathlib.Omega.{arith}
+use Rattle.lines.specs.Writing.{page}
+use Rattle.runner.specs.Feeding.{Closes}
+use Rattle.runner.proofs.Closing.{closed-stopped, closed-whole, closed-unfinished}
+use borrow.Author.Needs.{needs}
+use Rattle.runner.proofs.feed.close.Statement.{statement}
+use Rattle.runner.proofs.feed.close.Tie as tie
+use Rattle.runner.proofs.feed.close.Reads as reads
+use Rattle.runner.proofs.feed.close.Lts as lts
+use Rattle.lines.proofs.write.put_end.Reads as put-end-reads
+use Rattle.lines.proofs.write.put_reply_line.Reads as put-reply-line-reads
+use Rattle.runner.proofs.step.raised.Reads as raised-reads
+
+-- src/feed.rt:147:9
+put-end-requires : tie.Need-put-end-requires
+put-end-requires c κs = search needs
+
+-- src/feed.rt:147:9
+same-length : tie.Need-same-length
+same-length c = search needs
+
+-- src/feed.rt:147:9
+returns : tie.Need-returns
+unfolding Closes
+returns c i o h =
+    let a = c .before .before .before .before .before .before .before .before .before .before .args in
+    closed-stopped (a .f .running) i o h (a .hold .now) (page (a .out .now) (a .f .at)) (a .f .held) (c .before .before .before .before .if1 .taken) (c .before .before .put-end .ensures)
+
+-- src/feed.rt:150:9
+put-end-requires-2 : tie.Need-put-end-requires-2
+put-end-requires-2 c κs = search needs
+
+-- src/feed.rt:150:9
+same-length-2 : tie.Need-same-length-2
+same-length-2 c = search needs
+
+-- src/feed.rt:150:9
+returns-2 : tie.Need-returns-2
+unfolding Closes
+returns-2 c i o h =
+    let a = c .before .before .before .before .before .before .before .before .before .before .before .args in
+    closed-whole (a .f .running) i o h (a .hold .now) (page (a .out .now) (a .f .at)) (a .f .held) (c .before .before .before .before .before .if1 .left) (c .before .before .before .before .if2 .taken) (c .before .before .put-end2 .ensures)
+
+-- src/feed.rt:154:9
+put-reply-line-requires : tie.Need-put-reply-line-requires
+put-reply-line-requires c κs = search needs
+
+-- src/feed.rt:155:21
+raised-requires : tie.Need-raised-requires
+raised-requires c κs =
+    let r = c .before .before .before .before .before .before .before .before .before .before .before .before .pre .counted in
+    let l = c .before .before .before .before .before .before .if1 .left in
+    (omega arith, omega arith)
+
+-- src/feed.rt:155:5
+put-end-requires-3 : tie.Need-put-end-requires-3
+put-end-requires-3 c κs = search needs
+
+-- src/feed.rt:139:1
+same-length-3 : tie.Need-same-length-3
+same-length-3 c = search needs
+
+-- src/feed.rt:139:1
+returns-3 : tie.Need-returns-3
+unfolding Closes
+returns-3 c i o h =
+    let a = c .before .before .before .before .before .before .before .before .before .before .before .before .before .before .before .before .args in
+    closed-unfinished (a .f .running) i o h (a .hold .now) (page (a .out .now) (a .f .at)) (a .f .held) (c .before .before .before .before .before .before .before .before .before .before .if1 .left) (c .before .before .before .before .before .before .before .before .before .if2 .left) (c .before .before .before .before .before .before .before .before .before .before .before .before .before .before .before .before .pre .size) (c .before .before .before .raised .result) (c .before .before .before .before .before .before .before .put-reply-line .ensures) (c .before .before .before .raised .ensures) (c .before .before .put-end3 .ensures)
+
+pub close-spec : {M : Type 1} → statement M
+close-spec =
+    tie.close
+    (tie.spec
+    put-end-requires
+    same-length
+    returns
+    put-end-requires-2
+    same-length-2
+    returns-2
+    put-reply-line-requires
+    raised-requires
+    put-end-requires-3
+    same-length-3
+    returns-3)

@@ -1,0 +1,32 @@
+-- The machine of what is kept between bytes, and what lets a byte be fed.
+use Prim.Native.Nat.{ℕ, _≤_}
+use mathlib.Core.Path.{_≡_}
+use mathlib.Core.List.{List}
+use lib.ListN.{length, take}
+use Rattle.rules.specs.State.{deskOf, emptyState}
+use Rattle.lines.specs.Writing.{Page, put}
+use Rattle.runner.specs.declared.feed.Feeding.{Feeding}
+use Rattle.runner.specs.Machine.{Machine, closing}
+use Rattle.runner.specs.Running.{machineOf, Counted}
+
+-- of the bytes that are held the first belong to the line that came so far
+abbrev pub fedMachine : Feeding → List ℕ → List ℕ → List ℕ → List ℕ → Machine
+fedMachine f inbox outbox history hold = machineOf (f .running) inbox outbox history (take (f .held) hold)
+
+-- at most 121 bytes are held, in a buffer of so many
+pub record Ready (f : Feeding) (hold : List ℕ) : Type 0 where
+  pub counted : Counted (f .running)
+  pub held : f .held ≤ 121
+  pub size : length hold ≡ 121
+
+-- what is written at the end of the input, whatever the tables hold
+unfoldable pub Closes : Feeding → List ℕ → Page → Page → Type 0
+Closes f hold before after = (inbox outbox history : List ℕ) → after ≡ put before (closing (fedMachine f inbox outbox history hold))
+
+-- nothing is answered yet, nothing held and nothing written
+pub record Begun (f : Feeding) : Type 0 where
+  pub desk : f .running .desk ≡ deskOf emptyState
+  pub tally : f .running .tally ≡ record { done = 0; other = 0 }
+  pub line : f .running .line ≡ 1
+  pub held : f .held ≡ 0
+  pub at : f .at ≡ 0

@@ -1,0 +1,156 @@
+// The input byte after byte, however it is cut into reads.
+use crate::running::Running;
+use crate::running::answer_line;
+use crate::step::raised;
+use lines::read::read_line;
+use lines::write::put_end;
+use lines::write::put_reply_line;
+use rules::answers::Answer;
+use rules::answers::Refusal;
+ghost use Prim.Native.Nat.{_-_, _≤_};
+ghost use lib.Dec.{leb};
+ghost use mathlib.Core.Path.{_≡_};
+ghost use mathlib.Core.List.{_++_};
+ghost use lib.ListN.{length, take};
+ghost use Rattle.lines.specs.Writing.{page, put};
+ghost use Rattle.runner.specs.Machine.{held-with, fed, written, feeds, writes};
+ghost use Rattle.runner.specs.Feeding.{fedMachine, Ready, Closes};
+
+// What is kept between bytes: what is kept between lines, how many bytes of a line are held, and the
+// place up to which the output is written.
+pub struct Feeding {
+    pub running: Running,
+    pub held: usize,
+    pub at: usize,
+}
+
+// One byte more of a line. Of a line over 120 bytes no more than 121 are held: it is Malformed however
+// it goes on.
+fn hold_byte(hold: &mut [u8], held: usize, b: u8) -> usize
+    requires { ⌜ held ≤ 121 ⌝ }
+    requires { ⌜ length (now hold) ≡ 121 ⌝ }
+    ensures { λ r. ⌜ take r (now (hold .exit)) ≡ held-with (take held (now (hold .entry))) b ⌝ }
+    ensures { λ r. ⌜ r ≤ 121 ⌝ }
+{
+    if held < 121 {
+        hold[held] = b;
+        return held + 1;
+    }
+    held
+}
+
+// One byte in: after 100,000 lines nothing, at a line feed the line is answered, and any other is held.
+pub fn feed_byte(
+    f: Feeding,
+    inbox: &mut [u64],
+    outbox: &mut [u64],
+    history: &mut [u64],
+    work: &mut [u64; 4096],
+    pieces: &mut [u64; 4096],
+    hold: &mut [u8],
+    out: &mut [u8],
+    b: u8,
+) -> Feeding
+    requires { ⌜ Ready f (now hold) ⌝ }
+    ensures { λ r. ⌜ fedMachine r (now (inbox .exit)) (now (outbox .exit)) (now (history .exit)) (now (hold .exit)) ≡ fed (fedMachine f (now (inbox .entry)) (now (outbox .entry)) (now (history .entry)) (now (hold .entry))) b ⌝ }
+    ensures { λ r. ⌜ page (now (out .exit)) (r .at) ≡ put (page (now (out .entry)) (f .at)) (written (fedMachine f (now (inbox .entry)) (now (outbox .entry)) (now (history .entry)) (now (hold .entry))) b) ⌝ }
+    ensures { λ r. ⌜ Ready r (now (hold .exit)) ⌝ }
+{
+    let run = f.running;
+    if 100000 < run.line {
+        return f;
+    }
+    let n = f.held;
+    if b != 10 {
+        let held = hold_byte(hold, n, b);
+        return Feeding {
+            running: run,
+            held,
+            at: f.at,
+        };
+    }
+    let l = read_line(&hold[..n]);
+    let w = answer_line(run, inbox, outbox, history, work, pieces, out, f.at, l);
+    let running = w.running;
+    Feeding {
+        running,
+        held: 0,
+        at: w.at,
+    }
+}
+
+// How far a read was fed.
+pub struct Fed {
+    pub feeding: Feeding,
+    pub next: usize,
+}
+
+// Feeds a read, byte after byte, while the output has room for the longest reply: two numbers and
+// 1,024 pieces of 42 bytes are fewer than 45,000. Answers how far it came; what is written is lent on,
+// and the rest of the read is fed with a new page.
+pub fn run_some(
+    f: Feeding,
+    inbox: &mut [u64],
+    outbox: &mut [u64],
+    history: &mut [u64],
+    work: &mut [u64; 4096],
+    pieces: &mut [u64; 4096],
+    hold: &mut [u8],
+    out: &mut [u8],
+    chunk: &[u8],
+) -> Fed
+    requires { ⌜ Ready f (now hold) ⌝ }
+    requires { ⌜ f .at ≤ length (now out) ⌝ }
+    ensures { λ r. ⌜ fedMachine (r .feeding) (now (inbox .exit)) (now (outbox .exit)) (now (history .exit)) (now (hold .exit)) ≡ feeds (fedMachine f (now (inbox .entry)) (now (outbox .entry)) (now (history .entry)) (now (hold .entry))) (take (r .next) (now (chunk .entry))) ⌝ }
+    ensures { λ r. ⌜ page (now (out .exit)) (r .feeding .at) ≡ put (page (now (out .entry)) (f .at)) (writes (fedMachine f (now (inbox .entry)) (now (outbox .entry)) (now (history .entry)) (now (hold .entry))) (take (r .next) (now (chunk .entry)))) ⌝ }
+    ensures { λ r. ⌜ Ready (r .feeding) (now (hold .exit)) ⌝ }
+    ensures { λ r. ⌜ take (r .feeding .at) (now (out .exit)) ≡ take (f .at) (now (out .entry)) ++ writes (fedMachine f (now (inbox .entry)) (now (outbox .entry)) (now (history .entry)) (now (hold .entry))) (take (r .next) (now (chunk .entry))) ⌝ }
+    ensures { λ r. ⌜ r .feeding .at ≤ length (now (out .exit)) ⌝ }
+{
+    let mut g = f;
+    let mut k: usize = 0;
+    while k < chunk.len() {
+        if !has_room(out.len(), g.at) {
+            return Fed {
+                feeding: g,
+                next: k,
+            };
+        }
+        g = feed_byte(g, inbox, outbox, history, work, pieces, hold, out, chunk[k]);
+        k += 1;
+    }
+    Fed {
+        feeding: g,
+        next: k,
+    }
+}
+
+// Whether the page has room for the longest reply.
+fn has_room(len: usize, at: usize) -> bool
+    ensures { λ r. ⌜ r ≡ leb 45000 (len - at) ⌝ }
+{
+    if len < at {
+        return false;
+    }
+    45000 <= len - at
+}
+
+// At the end of the input: "An unfinished last line is Malformed", and last comes `end`.
+pub fn close(f: Feeding, hold: &[u8], out: &mut [u8]) -> usize
+    requires { ⌜ Ready f (now hold) ⌝ }
+    ensures { λ r. ⌜ Closes f (now (hold .entry)) (page (now (out .entry)) (f .at)) (page (now (out .exit)) r) ⌝ }
+{
+    let run = f.running;
+    let t = run.tally;
+    let n = f.held;
+    if 100000 < run.line {
+        return put_end(out, f.at, t);
+    }
+    if n == 0 {
+        return put_end(out, f.at, t);
+    }
+    let why = Refusal::Malformed;
+    let answer = Answer::Refused(why);
+    let p = put_reply_line(out, f.at, run.line, answer);
+    put_end(out, p, raised(t, 1))
+}
