@@ -2,5 +2,6 @@ pub mod Closing
 pub mod Cuts
 pub mod Feeds
 pub mod Pages
+pub mod Parts
 pub mod Room
 pub mod Steps

@@ -9,7 +9,7 @@ use lib.ListN.{length, take, set, length-append, length-set}
 use lib.Seq.{take-suc-set}
 use borrow.Author.Tests.{leb-true, lt-ltb}
 use Rattle.rules.specs.declared.rows.Lot.{Lot}
-use Rattle.rules.specs.Lists.{joined}
+use Rattle.rules.specs.Lists.{joined, bytes}
 use Rattle.rules.specs.Lines.{lineFeed, tab, spelled, decimal, tabbed, readLine}
 use Rattle.rules.specs.declared.calls.Call.{Call}
 use Rattle.rules.specs.declared.calls.Line.{Line}
@@ -22,8 +22,9 @@ use Rattle.rules.proofs.Facts.{Accepted}
 use Rattle.rules.proofs.Accepts.{accepted-frame}
 use Rattle.lots.proofs.LotCounts.{pieces-count}
 use Rattle.lots.proofs.TraceJoin.{records-fit}
-use Rattle.rules.specs.Transcript.{pieceValues, replyText, answerLine}
-use Rattle.runner.specs.Machine.{Machine, stopped, outcomeFor, written}
+use Rattle.rules.specs.declared.answers.Tally.{Tally}
+use Rattle.rules.specs.Transcript.{pieceValues, replyText, answerLine, endText}
+use Rattle.runner.specs.Machine.{Machine, stopped, outcomeFor, written, unfinishedText, ended, closing}
 use Rattle.lines.specs.Writing.{Page, page, putByte, put}
 
 -- a number has at most 20 digits
@@ -145,6 +146,31 @@ written-fits m b = go (stopped m) (eqb b lineFeed)
     go false true = line-fits (m .line) (m .book) (readLine (m .held))
     go false false = omega arith
 
+-- nor does the end of the input
+end-length : (t : Tally) → length (endText t) ≤ 46
+unfolding endText bytes
+end-length t =
+    let x = tabbed-length (t .done ∷ t .other ∷ []) in
+    let y : length (bytes "end") ≡ 3 = refl in
+    simp (length-append) (omega (arith, x, y))
+
+unfinished-fits : (held : List ℕ) (m : Machine) → length (unfinishedText held m) ≤ 43134
+unfolding unfinishedText
+unfinished-fits [] m = omega arith
+unfinished-fits (b ∷ bs) m = line-fits (m .line) (m .book) Line.Malformed
+
+pub closing-fits : (m : Machine) → length (closing m) ≤ 45000
+unfolding closing
+closing-fits m = go (stopped m)
+  where
+    go : (t : Bool) → length (cond t [] (unfinishedText (m .held) m) ++ endText (ended m .tally)) ≤ 45000
+    go true = let e = end-length (ended m .tally) in omega arith
+    go false =
+        let e = end-length (ended m .tally) in
+        let u = unfinished-fits (m .held) m in
+        let l = length-append (unfinishedText (m .held) m) (endText (ended m .tally)) in
+        omega arith
+
 -- ---- a page on which all is written that was to be
 pub whole : (o o₀ : List ℕ) (at at₀ : ℕ) (text : List ℕ) → page o at ≡ put (page o₀ at₀) text → at₀ + length text ≤ length o₀
     → (take at o ≡ take at₀ o₀ ++ text) × (at ≤ length o)
@@ -166,3 +192,11 @@ fits-more m b o o₀ at at₀ text e h r =
     let l = length-append text (written m b) in
     let q = leb-true 45000 (length o - at) r in
     omega (arith, x, u, z, w, l, q, h)
+
+-- at the end of the input there is room for what comes last, whatever the tables hold
+pub closed-all : (o o₀ : List ℕ) (at at₀ : ℕ) (m : List ℕ → List ℕ → List ℕ → Machine) → ((x y z : List ℕ) → page o at ≡ put (page o₀ at₀) (closing (m x y z))) → at₀ + 45000 ≤ length o₀
+    → ((x y z : List ℕ) → page o at ≡ put (page o₀ at₀) (closing (m x y z))) × (((x y z : List ℕ) → take at o ≡ take at₀ o₀ ++ closing (m x y z)) × (at ≤ length o))
+closed-all o o₀ at at₀ m e h = (e, (λ x y z. one x y z .0, one [] [] [] .1))
+  where
+    one : (x y z : List ℕ) → (take at o ≡ take at₀ o₀ ++ closing (m x y z)) × (at ≤ length o)
+    one x y z = whole o o₀ at at₀ (closing (m x y z)) (e x y z) (let c = closing-fits (m x y z) in omega arith)

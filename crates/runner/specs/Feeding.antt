@@ -1,7 +1,13 @@
 -- The machine of what is kept between bytes, and what lets a byte be fed.
-use Prim.Native.Nat.{ℕ, _≤_}
+use Prim.Native.Nat.{ℕ, _-_, _≤_, _<_}
 use mathlib.Core.Path.{_≡_}
-use mathlib.Core.List.{List}
+use mathlib.Core.Bool.{true, not}
+use lib.Dec.{eqb}
+use Rattle.rules.specs.Lists.{all}
+use Rattle.rules.specs.Lines.{lineFeed}
+use Rattle.runner.specs.declared.feed.Held.{Held}
+use Rattle.runner.specs.declared.feed.Fed.{Fed}
+use mathlib.Core.List.{List, _++_}
 use lib.ListN.{length, take}
 use Rattle.rules.specs.State.{deskOf, emptyState}
 use Rattle.lines.specs.Writing.{Page, put}
@@ -19,9 +25,30 @@ pub record Ready (f : Feeding) (hold : List ℕ) : Type 0 where
   pub held : f .held ≤ 121
   pub size : length hold ≡ 121
 
+-- the bytes that were held are a beginning of the read, and no line feed is among them
+pub record HeldPart (r : Held) (chunk : List ℕ) : Type 0 where
+  pub few : r .held ≤ 121
+  pub within : r .next ≤ length chunk
+  pub noFeed : all (λ b. not (eqb b lineFeed)) (take (r .next) chunk) ≡ true
+
+-- some bytes were fed, where there are any, and wrote no more than the longest reply
+pub record FedPart (r : Fed) (text chunk : List ℕ) : Type 0 where
+  pub within : r .next ≤ length chunk
+  pub some : 0 < length chunk → 0 < r .next
+  pub short : length text ≤ 43134
+
+-- no byte is fed that is not there; and where there are bytes, and room for the longest reply, some are fed
+pub record Moves (f : Feeding) (out : List ℕ) (r : Fed) (chunk : List ℕ) : Type 0 where
+  pub within : r .next ≤ length chunk
+  pub some : 0 < length chunk → 45000 ≤ length out - f .at → 0 < r .next
+
 -- what is written at the end of the input, whatever the tables hold
 unfoldable pub Closes : Feeding → List ℕ → Page → Page → Type 0
 Closes f hold before after = (inbox outbox history : List ℕ) → after ≡ put before (closing (fedMachine f inbox outbox history hold))
+
+-- all of it stands behind what was written before
+unfoldable pub EndsWith : Feeding → List ℕ → List ℕ → List ℕ → Type 0
+EndsWith f hold before after = (inbox outbox history : List ℕ) → after ≡ before ++ closing (fedMachine f inbox outbox history hold)
 
 -- nothing is answered yet, nothing held and nothing written
 pub record Begun (f : Feeding) : Type 0 where

@@ -30,6 +30,11 @@ stopped m = ltb mostLines (m .line)
 unfoldable pub held-with : List ℕ → ℕ → List ℕ
 held-with before b = cond (ltb (length before) (mostBytes + 1)) (before ++ (b ∷ [])) before
 
+-- many bytes more of a line
+unfoldable pub holds : List ℕ → List ℕ → List ℕ
+holds before [] = before
+holds before (b ∷ bs) = holds (held-with before b) bs
+
 -- what a line is answered, and the machine after that
 abbrev pub outcomeFor : Machine → Line → Outcome
 outcomeFor m l = answerLine (m .book) l

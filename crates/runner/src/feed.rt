@@ -7,14 +7,14 @@ use lines::write::put_end;
 use lines::write::put_reply_line;
 use rules::answers::Answer;
 use rules::answers::Refusal;
-ghost use Prim.Native.Nat.{_-_, _≤_};
+ghost use Prim.Native.Nat.{_+_, _-_, _≤_};
 ghost use lib.Dec.{leb};
 ghost use mathlib.Core.Path.{_≡_};
 ghost use mathlib.Core.List.{_++_};
 ghost use lib.ListN.{length, take};
 ghost use Rattle.lines.specs.Writing.{page, put};
-ghost use Rattle.runner.specs.Machine.{held-with, fed, written, feeds, writes};
-ghost use Rattle.runner.specs.Feeding.{fedMachine, Ready, Closes};
+ghost use Rattle.runner.specs.Machine.{held-with, holds, fed, written, feeds, writes};
+ghost use Rattle.runner.specs.Feeding.{fedMachine, Ready, HeldPart, FedPart, Moves, Closes, EndsWith};
 
 // What is kept between bytes: what is kept between lines, how many bytes of a line are held, and the
 // place up to which the output is written.
@@ -85,7 +85,78 @@ pub struct Fed {
     pub next: usize,
 }
 
-// Feeds a read, byte after byte, while the output has room for the longest reply: two numbers and
+// How many bytes of a line are held, and how far a read was gone through for them.
+pub struct Held {
+    pub held: usize,
+    pub next: usize,
+}
+
+// Holds the bytes of a read up to its next line feed, or all of them.
+fn hold_part(hold: &mut [u8], held: usize, chunk: &[u8]) -> Held
+    requires { ⌜ held ≤ 121 ⌝ }
+    requires { ⌜ length (now hold) ≡ 121 ⌝ }
+    ensures { λ r. ⌜ take (r .held) (now (hold .exit)) ≡ holds (take held (now (hold .entry))) (take (r .next) (now (chunk .entry))) ⌝ }
+    ensures { λ r. ⌜ HeldPart r (now (chunk .entry)) ⌝ }
+{
+    let mut n = held;
+    let mut k: usize = 0;
+    while k < chunk.len() {
+        if chunk[k] == 10 {
+            return Held { held: n, next: k };
+        }
+        n = hold_byte(hold, n, chunk[k]);
+        k += 1;
+    }
+    Held { held: n, next: k }
+}
+
+// Feeds a read up to its next line feed and with it, or all of the read: the desk is handed on once a
+// line, not once a byte.
+fn feed_part(
+    f: Feeding,
+    inbox: &mut [u64],
+    outbox: &mut [u64],
+    history: &mut [u64],
+    work: &mut [u64; 4096],
+    pieces: &mut [u64; 4096],
+    hold: &mut [u8],
+    out: &mut [u8],
+    chunk: &[u8],
+) -> Fed
+    requires { ⌜ Ready f (now hold) ⌝ }
+    ensures { λ r. ⌜ fedMachine (r .feeding) (now (inbox .exit)) (now (outbox .exit)) (now (history .exit)) (now (hold .exit)) ≡ feeds (fedMachine f (now (inbox .entry)) (now (outbox .entry)) (now (history .entry)) (now (hold .entry))) (take (r .next) (now (chunk .entry))) ⌝ }
+    ensures { λ r. ⌜ page (now (out .exit)) (r .feeding .at) ≡ put (page (now (out .entry)) (f .at)) (writes (fedMachine f (now (inbox .entry)) (now (outbox .entry)) (now (history .entry)) (now (hold .entry))) (take (r .next) (now (chunk .entry)))) ⌝ }
+    ensures { λ r. ⌜ Ready (r .feeding) (now (hold .exit)) ⌝ }
+    ensures { λ r. ⌜ FedPart r (writes (fedMachine f (now (inbox .entry)) (now (outbox .entry)) (now (history .entry)) (now (hold .entry))) (take (r .next) (now (chunk .entry)))) (now (chunk .entry)) ⌝ }
+{
+    let run = f.running;
+    if 100000 < run.line {
+        return Fed {
+            feeding: f,
+            next: chunk.len(),
+        };
+    }
+    let h = hold_part(hold, f.held, chunk);
+    let k = h.next;
+    let g = Feeding {
+        running: run,
+        held: h.held,
+        at: f.at,
+    };
+    if chunk.len() <= k {
+        return Fed {
+            feeding: g,
+            next: k,
+        };
+    }
+    let fed = feed_byte(g, inbox, outbox, history, work, pieces, hold, out, chunk[k]);
+    Fed {
+        feeding: fed,
+        next: k + 1,
+    }
+}
+
+// Feeds a read, line after line, while the output has room for the longest reply: two numbers and
 // 1,024 pieces of 42 bytes are fewer than 45,000. Answers how far it came; what is written is lent on,
 // and the rest of the read is fed with a new page.
 pub fn run_some(
@@ -106,6 +177,7 @@ pub fn run_some(
     ensures { λ r. ⌜ Ready (r .feeding) (now (hold .exit)) ⌝ }
     ensures { λ r. ⌜ take (r .feeding .at) (now (out .exit)) ≡ take (f .at) (now (out .entry)) ++ writes (fedMachine f (now (inbox .entry)) (now (outbox .entry)) (now (history .entry)) (now (hold .entry))) (take (r .next) (now (chunk .entry))) ⌝ }
     ensures { λ r. ⌜ r .feeding .at ≤ length (now (out .exit)) ⌝ }
+    ensures { λ r. ⌜ Moves f (now (out .entry)) r (now (chunk .entry)) ⌝ }
 {
     let mut g = f;
     let mut k: usize = 0;
@@ -116,8 +188,19 @@ pub fn run_some(
                 next: k,
             };
         }
-        g = feed_byte(g, inbox, outbox, history, work, pieces, hold, out, chunk[k]);
-        k += 1;
+        let part = feed_part(
+            g,
+            inbox,
+            outbox,
+            history,
+            work,
+            pieces,
+            hold,
+            out,
+            &chunk[k..],
+        );
+        g = part.feeding;
+        k += part.next;
     }
     Fed {
         feeding: g,
@@ -138,7 +221,10 @@ fn has_room(len: usize, at: usize) -> bool
 // At the end of the input: "An unfinished last line is Malformed", and last comes `end`.
 pub fn close(f: Feeding, hold: &[u8], out: &mut [u8]) -> usize
     requires { ⌜ Ready f (now hold) ⌝ }
+    requires { ⌜ f .at + 45000 ≤ length (now out) ⌝ }
     ensures { λ r. ⌜ Closes f (now (hold .entry)) (page (now (out .entry)) (f .at)) (page (now (out .exit)) r) ⌝ }
+    ensures { λ r. ⌜ EndsWith f (now (hold .entry)) (take (f .at) (now (out .entry))) (take r (now (out .exit))) ⌝ }
+    ensures { λ r. ⌜ r ≤ length (now (out .exit)) ⌝ }
 {
     let run = f.running;
     let t = run.tally;

@@ -1,6 +1,9 @@
 use native.Mathlib.Omega.{arith}
 use Rattle.lines.specs.Writing.{page}
-use Rattle.runner.specs.Feeding.{Closes}
+use lib.ListN.{take}
+use Rattle.runner.specs.Running.{machineOf}
+use Rattle.runner.specs.Feeding.{Closes, EndsWith}
+use Rattle.runner.proofs.Room as room
 use Rattle.runner.proofs.Closing.{closed-stopped, closed-whole, closed-unfinished}
 use borrow.Author.Needs.{needs}
 use Rattle.runner.proofs.feed.close.Statement.{statement}
@@ -21,10 +24,10 @@ same-length c = search needs
 
 -- src/feed.rt:147:9
 returns : tie.Need-returns
-unfolding Closes
-returns c i o h =
+unfolding Closes EndsWith
+returns c =
     let a = c .before .before .before .before .before .before .before .before .before .before .args in
-    closed-stopped (a .f .running) i o h (a .hold .now) (page (a .out .now) (a .f .at)) (a .f .held) (c .before .before .before .before .if1 .taken) (c .before .before .put-end .ensures)
+    room.closed-all _ (a .out .now) _ (a .f .at) (λ i o h. machineOf (a .f .running) i o h (take (a .f .held) (a .hold .now))) (λ i o h. closed-stopped (a .f .running) i o h (a .hold .now) (page (a .out .now) (a .f .at)) (a .f .held) (c .before .before .before .before .if1 .taken) (c .before .before .put-end .ensures)) (c .before .before .before .before .before .before .before .before .before .before .pre .1)
 
 -- src/feed.rt:150:9
 put-end-requires-2 : tie.Need-put-end-requires-2
@@ -36,10 +39,10 @@ same-length-2 c = search needs
 
 -- src/feed.rt:150:9
 returns-2 : tie.Need-returns-2
-unfolding Closes
-returns-2 c i o h =
+unfolding Closes EndsWith
+returns-2 c =
     let a = c .before .before .before .before .before .before .before .before .before .before .before .args in
-    closed-whole (a .f .running) i o h (a .hold .now) (page (a .out .now) (a .f .at)) (a .f .held) (c .before .before .before .before .before .if1 .left) (c .before .before .before .before .if2 .taken) (c .before .before .put-end2 .ensures)
+    room.closed-all _ (a .out .now) _ (a .f .at) (λ i o h. machineOf (a .f .running) i o h (take (a .f .held) (a .hold .now))) (λ i o h. closed-whole (a .f .running) i o h (a .hold .now) (page (a .out .now) (a .f .at)) (a .f .held) (c .before .before .before .before .before .if1 .left) (c .before .before .before .before .if2 .taken) (c .before .before .put-end2 .ensures)) (c .before .before .before .before .before .before .before .before .before .before .before .pre .1)
 
 -- src/feed.rt:154:9
 put-reply-line-requires : tie.Need-put-reply-line-requires
@@ -48,7 +51,7 @@ put-reply-line-requires c κs = search needs
 -- src/feed.rt:155:21
 raised-requires : tie.Need-raised-requires
 raised-requires c κs =
-    let r = c .before .before .before .before .before .before .before .before .before .before .before .before .pre .counted in
+    let r = c .before .before .before .before .before .before .before .before .before .before .before .before .pre .0 .counted in
     let l = c .before .before .before .before .before .before .if1 .left in
     (omega arith, omega arith)
 
@@ -62,10 +65,10 @@ same-length-3 c = search needs
 
 -- src/feed.rt:139:1
 returns-3 : tie.Need-returns-3
-unfolding Closes
-returns-3 c i o h =
+unfolding Closes EndsWith
+returns-3 c =
     let a = c .before .before .before .before .before .before .before .before .before .before .before .before .before .before .before .before .args in
-    closed-unfinished (a .f .running) i o h (a .hold .now) (page (a .out .now) (a .f .at)) (a .f .held) (c .before .before .before .before .before .before .before .before .before .before .if1 .left) (c .before .before .before .before .before .before .before .before .before .if2 .left) (c .before .before .before .before .before .before .before .before .before .before .before .before .before .before .before .before .pre .size) (c .before .before .before .raised .result) (c .before .before .before .before .before .before .before .put-reply-line .ensures) (c .before .before .before .raised .ensures) (c .before .before .put-end3 .ensures)
+    room.closed-all _ (a .out .now) _ (a .f .at) (λ i o h. machineOf (a .f .running) i o h (take (a .f .held) (a .hold .now))) (λ i o h. closed-unfinished (a .f .running) i o h (a .hold .now) (page (a .out .now) (a .f .at)) (a .f .held) (c .before .before .before .before .before .before .before .before .before .before .if1 .left) (c .before .before .before .before .before .before .before .before .before .if2 .left) (c .before .before .before .before .before .before .before .before .before .before .before .before .before .before .before .before .pre .0 .size) (c .before .before .before .raised .result) (c .before .before .before .before .before .before .before .put-reply-line .ensures) (c .before .before .before .raised .ensures) (c .before .before .put-end3 .ensures)) (c .before .before .before .before .before .before .before .before .before .before .before .before .before .before .before .before .pre .1)
 
 pub close-spec : {M : Type 1} → statement M
 close-spec =

@@ -1,11 +1,10 @@
-"""Sessions for the program: makes the input and the expected output of the crates
-crates/cases_NAME that run the book runner.
+"""Sessions for the program: makes the inputs, the arguments and the expected output of the crate
+crates/cases_book, which runs the book runner on one file after another.
 
-    python3 tests/cases/book.py          writes stdin, stdout and src/main.rt of each
+    python3 tests/cases/book.py
 
 The program under test has no part in this: every output comes from tests/reference.
 """
-import io
 import os
 import subprocess
 import sys
@@ -85,18 +84,21 @@ CASES = {
 
 
 def main():
+    crate = os.path.join(TOP, "crates", "cases_book")
+    os.makedirs(os.path.join(crate, "data"), exist_ok=True)
+    stdout = b""
     for name, make in CASES.items():
-        crate = os.path.join(TOP, "crates", "cases_" + name)
-        os.makedirs(os.path.join(crate, "src"), exist_ok=True)
         given = make()
         wanted = subprocess.run([sys.executable, os.path.join(REFERENCE, "book.py")], input=given, check=True, stdout=subprocess.PIPE).stdout
-        with open(os.path.join(crate, "stdin"), "wb") as out:
+        with open(os.path.join(crate, "data", name), "wb") as out:
             out.write(given)
-        with open(os.path.join(crate, "stdout"), "wb") as out:
-            out.write(wanted)
-        with open(os.path.join(crate, "src", "main.rt"), "w") as out:
-            out.write("// The book runner on stored input: made by tests/cases/book.py.\nfn main() {\n    program::run();\n}\n")
+        stdout += wanted
         print(name, wanted.splitlines()[-1].decode())
+    # a folder opens and cannot be read: nothing is written of it, not even `end`
+    with open(os.path.join(crate, "args"), "w") as out:
+        out.write("\n".join([".", *CASES]) + "\n")
+    with open(os.path.join(crate, "stdout"), "wb") as out:
+        out.write(stdout)
 
 
 if __name__ == "__main__":

@@ -1,0 +1,197 @@
+// The loop over the system calls: a file to standard output, from an empty book. Everything that decides
+// anything is in `runner`, proved on slices.
+use libc::STDOUT_FILENO;
+use runner::feed::Feeding;
+use runner::feed::close;
+use runner::feed::run_some;
+use runner::start::start;
+ghost use Prim.Native.Nat.{_≤_};
+ghost use mathlib.Core.Path.{_≡_};
+ghost use lib.ListN.{length};
+ghost use Rattle.runner.specs.Feeding.{Ready};
+
+// A whole session on what is open as fd, in tables of document 01's sizes, all zero.
+pub fn run(fd: i32) {
+    let mut inbox = [0; 256];
+    let mut outbox = [0; 128];
+    let mut history = [0; 5120];
+    let mut work = [0; 4096];
+    let mut pieces = [0; 4096];
+    let mut hold = [0; 121];
+    let mut input = io::large_buffer();
+    let mut out = io::large_buffer();
+    session(
+        fd,
+        &mut inbox,
+        &mut outbox,
+        &mut history,
+        &mut work,
+        &mut pieces,
+        &mut hold,
+        &mut input,
+        &mut out,
+    );
+}
+
+// What a turn leaves: whether there is another, and whether all that was sent was read and all that was
+// to be written is written.
+struct Turn {
+    feeding: Feeding,
+    on: bool,
+    whole: bool,
+}
+
+// Read after read, then the end of the input. A proved loop has to end, and nothing says that an input
+// does: the turns are counted down from a number that no run uses up.
+fn session(
+    fd: i32,
+    inbox: &mut [u64],
+    outbox: &mut [u64],
+    history: &mut [u64],
+    work: &mut [u64; 4096],
+    pieces: &mut [u64; 4096],
+    hold: &mut [u8],
+    input: &mut [u8],
+    out: &mut [u8],
+)
+    requires { ⌜ length (now hold) ≡ 121 ⌝ }
+    requires { ⌜ length (now out) ≡ 65536 ⌝ }
+{
+    let feeding = start();
+    let mut t = Turn {
+        feeding,
+        on: true,
+        whole: true,
+    };
+    let mut turns = u64::MAX;
+    while t.on && turns > 0 {
+        t = read_once(
+            fd,
+            t.feeding,
+            inbox,
+            outbox,
+            history,
+            work,
+            pieces,
+            hold,
+            input,
+            out,
+        );
+        turns -= 1;
+    }
+    if t.whole {
+        let at = close(t.feeding, hold, out);
+        written(&out[..at]);
+    }
+}
+
+// One read, answered and written. A read that fails is named, and there is no other turn: what was sent is
+// not known, so no `end` is written.
+fn read_once(
+    fd: i32,
+    f: Feeding,
+    inbox: &mut [u64],
+    outbox: &mut [u64],
+    history: &mut [u64],
+    work: &mut [u64; 4096],
+    pieces: &mut [u64; 4096],
+    hold: &mut [u8],
+    input: &mut [u8],
+    out: &mut [u8],
+) -> Turn
+    requires { ⌜ Ready f (now hold) ⌝ }
+    requires { ⌜ f .at ≡ 0 ⌝ }
+    requires { ⌜ length (now out) ≡ 65536 ⌝ }
+    ensures { λ r. ⌜ Ready (r .feeding) (now (hold .exit)) ⌝ }
+    ensures { λ r. ⌜ r .feeding .at ≡ 0 ⌝ }
+{
+    let got = libc::read(fd, input);
+    if got < 0 {
+        os::fail(&[b'r', b'e', b'a', b'd']);
+        return Turn {
+            feeding: f,
+            on: false,
+            whole: false,
+        };
+    }
+    let n = io::count(got, input);
+    if n == 0 {
+        return Turn {
+            feeding: f,
+            on: false,
+            whole: true,
+        };
+    }
+    answer_read(
+        f,
+        inbox,
+        outbox,
+        history,
+        work,
+        pieces,
+        hold,
+        &input[..n],
+        out,
+    )
+}
+
+// A read may be answered with more than a page holds: it is fed in parts, and each page written before
+// the next. After 100,000 lines, or where a write fails, there is no other turn.
+fn answer_read(
+    f: Feeding,
+    inbox: &mut [u64],
+    outbox: &mut [u64],
+    history: &mut [u64],
+    work: &mut [u64; 4096],
+    pieces: &mut [u64; 4096],
+    hold: &mut [u8],
+    chunk: &[u8],
+    out: &mut [u8],
+) -> Turn
+    requires { ⌜ Ready f (now hold) ⌝ }
+    requires { ⌜ f .at ≡ 0 ⌝ }
+    requires { ⌜ length (now out) ≡ 65536 ⌝ }
+    ensures { λ r. ⌜ Ready (r .feeding) (now (hold .exit)) ⌝ }
+    ensures { λ r. ⌜ r .feeding .at ≡ 0 ⌝ }
+{
+    let mut g = f;
+    let mut from: usize = 0;
+    let mut whole = true;
+    while whole && from < chunk.len() {
+        let r = run_some(
+            g,
+            inbox,
+            outbox,
+            history,
+            work,
+            pieces,
+            hold,
+            out,
+            &chunk[from..],
+        );
+        let fed = r.feeding;
+        let at = fed.at;
+        whole = written(&out[..at]);
+        g = Feeding {
+            running: fed.running,
+            held: fed.held,
+            at: 0,
+        };
+        from += r.next;
+    }
+    let run = g.running;
+    Turn {
+        feeding: g,
+        on: whole && run.line <= 100000,
+        whole,
+    }
+}
+
+// Writes the text out, or names why it cannot be.
+fn written(text: &[u8]) -> bool {
+    let done = io::write_all(STDOUT_FILENO, text);
+    if !done {
+        os::fail(&[b'w', b'r', b'i', b't', b'e']);
+    }
+    done
+}
