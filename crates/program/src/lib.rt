@@ -15,8 +15,6 @@ pub fn run(fd: i32) {
     let mut inbox = [0; 256];
     let mut outbox = [0; 128];
     let mut history = [0; 5120];
-    let mut work = [0; 4096];
-    let mut pieces = [0; 4096];
     let mut hold = [0; 121];
     let mut input = io::large_buffer();
     let mut out = io::large_buffer();
@@ -25,8 +23,6 @@ pub fn run(fd: i32) {
         &mut inbox,
         &mut outbox,
         &mut history,
-        &mut work,
-        &mut pieces,
         &mut hold,
         &mut input,
         &mut out,
@@ -48,8 +44,6 @@ fn session(
     inbox: &mut [u64],
     outbox: &mut [u64],
     history: &mut [u64],
-    work: &mut [u64; 4096],
-    pieces: &mut [u64; 4096],
     hold: &mut [u8],
     input: &mut [u8],
     out: &mut [u8],
@@ -65,18 +59,7 @@ fn session(
     };
     let mut turns = u64::MAX;
     while t.on && turns > 0 {
-        t = read_once(
-            fd,
-            t.feeding,
-            inbox,
-            outbox,
-            history,
-            work,
-            pieces,
-            hold,
-            input,
-            out,
-        );
+        t = read_once(fd, t.feeding, inbox, outbox, history, hold, input, out);
         turns -= 1;
     }
     if t.whole {
@@ -93,8 +76,6 @@ fn read_once(
     inbox: &mut [u64],
     outbox: &mut [u64],
     history: &mut [u64],
-    work: &mut [u64; 4096],
-    pieces: &mut [u64; 4096],
     hold: &mut [u8],
     input: &mut [u8],
     out: &mut [u8],
@@ -122,17 +103,7 @@ fn read_once(
             whole: true,
         };
     }
-    answer_read(
-        f,
-        inbox,
-        outbox,
-        history,
-        work,
-        pieces,
-        hold,
-        &input[..n],
-        out,
-    )
+    answer_read(f, inbox, outbox, history, hold, &input[..n], out)
 }
 
 // A read may be answered with more than a page holds: it is fed in parts, and each page written before
@@ -142,8 +113,6 @@ fn answer_read(
     inbox: &mut [u64],
     outbox: &mut [u64],
     history: &mut [u64],
-    work: &mut [u64; 4096],
-    pieces: &mut [u64; 4096],
     hold: &mut [u8],
     chunk: &[u8],
     out: &mut [u8],
@@ -158,17 +127,7 @@ fn answer_read(
     let mut from: usize = 0;
     let mut whole = true;
     while whole && from < chunk.len() {
-        let r = run_some(
-            g,
-            inbox,
-            outbox,
-            history,
-            work,
-            pieces,
-            hold,
-            out,
-            &chunk[from..],
-        );
+        let r = run_some(g, inbox, outbox, history, hold, out, &chunk[from..]);
         let fed = r.feeding;
         let at = fed.at;
         whole = written(&out[..at]);

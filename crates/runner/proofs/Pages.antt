@@ -8,24 +8,23 @@ use lib.Dec.{lit<}
 use lib.ListN.{length, getD, take, drop}
 use Rattle.rules.specs.declared.rows.Lot.{Lot}
 use Rattle.rules.specs.declared.answers.Answer.{Answer}
-use Rattle.rules.specs.declared.answers.Answered.{Answered}
 use Rattle.rules.specs.declared.calls.Line.{Line}
 use Rattle.rules.specs.declared.answers.Tally.{Tally}
 use Rattle.rules.specs.Lists.{joined}
 use Rattle.rules.specs.Tables.{rowsOf, lotShape}
 use Rattle.rules.specs.Lines.{lineFeed, tabbed}
 use Rattle.rules.specs.Replies.{told, if-done}
-use Rattle.rules.specs.Answer.{Outcome, bookOf}
-use Rattle.rules.specs.Transcript.{pieceValues, replyText, answerLine, tallied}
+use Rattle.rules.specs.Transcript.{pieceValues, replyText, tallied}
 use Rattle.rules.proofs.Accepts.{not-done}
 use Rattle.rules.proofs.Laying.{rows-split}
 use Rattle.tables.proofs.Rest.{cell, cell0}
-use Rattle.lines.specs.Writing.{Page, put, replyStart}
-use Rattle.lines.proofs.PageLaws.{put-then, put-pieces, put-nothing, reply-text}
-use Rattle.runner.specs.Step.{handed, steppedOf}
+use Rattle.lines.specs.Writing.{Page, page, put, replyStart}
+use Rattle.lines.proofs.PageLaws.{put-then, put-pieces, put-nothing}
+use Rattle.runner.specs.declared.step.Stepped.{Stepped}
 use Rattle.runner.specs.declared.running.Running.{Running}
 use Rattle.runner.specs.Machine.{Machine, answered, outcomeFor}
-use Rattle.runner.specs.Running.{machineOf, Counted, handedCount, pieceAt, answerText}
+use Rattle.runner.specs.Running.{machineOf, Counted}
+use Rattle.runner.specs.Step.{Replied, repliedOf, replied, handed, handedCount, pieceAt, answerText}
 
 -- ---- one piece read
 drop-past : (n : ℕ) (t : List ℕ) → length t ≤ n → drop n t ≡ []
@@ -82,21 +81,23 @@ unfolding tallied
 raised-other t n e = rw (not-done {A = Tally} n (record { done = t .done + 1; other = t .other }) (record { done = t .done; other = t .other + 1 }) e)
 
 -- ---- a line answered: the machine after it, its text, and the counts
-module _ (run : Running) (i o h : List ℕ) (l : Line) (r : Answered) (i′ o′ h′ ps : List ℕ) (e : steppedOf r i′ o′ h′ ps ≡ outcomeFor (machineOf run i o h []) l)
-    (n : ℕ) (k : n ≡ told (r .answer) .number) (t : Tally) (c : t ≡ tallied (run .tally) n) where
+module _ (run : Running) (i o h : List ℕ) (l : Line) (p : Page) (r : Stepped) (i′ o′ h′ out : List ℕ) (e : repliedOf r i′ o′ h′ out ≡ replied (run .line) p (outcomeFor (machineOf run i o h []) l))
+    (t : Tally) (c : t ≡ tallied (run .tally) (r .number)) where
   abbrev pub after : Running
   after = record { desk = r .desk; tally = t; line = run .line + 1 }
 
   pub line-answered : machineOf after i′ o′ h′ [] ≡ answered (machineOf run i o h []) (outcomeFor (machineOf run i o h []) l)
-  line-answered = rw (← e, c, k)
+  line-answered =
+      let b = ap (λ (x : Replied). x .book) e in
+      let n = ap (λ (x : Replied). x .number) e in
+      rw (c, n, b)
 
-  pub line-text : (p : Page) {q : Page} → q ≡ put p (answerText (run .line) (r .answer) ps) → q ≡ put p (replyText (run .line) (outcomeFor (machineOf run i o h []) l))
-  unfolding answerText
-  line-text p f = rw (← e) (f ∙ ap (put p) (sym (reply-text (run .line) (steppedOf r i′ o′ h′ ps))))
+  pub line-text : page out (r .at) ≡ put p (replyText (run .line) (outcomeFor (machineOf run i o h []) l))
+  line-text = ap (λ (x : Replied). x .text) e
 
   pub line-counted : Counted run → run .line ≤ 100000 → Counted after
   unfolding tallied
-  line-counted f g = rw c (go n)
+  line-counted f g = rw c (go (r .number))
     where
       go : (m : ℕ) → Counted (record { desk = r .desk; tally = tallied (run .tally) m; line = run .line + 1 })
       go zero = record { done = omega arith; other = omega arith; few = omega arith }

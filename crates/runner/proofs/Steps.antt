@@ -1,4 +1,4 @@
--- What a call's own function gives is what the step gives: only a trace hands out pieces, and a trace leaves the book as it was.
+-- What a call's own function gives is what the step leaves: only a trace hands out pieces, and a trace leaves the book as it was.
 use Prim.Native.Nat.{ℕ, zero, suc, _+_, _*_, _/_, _≤_, _<_}
 use mathlib.Core.Path.{_≡_, refl, sym, ap, _∙_}
 use mathlib.Core.Bool.{Bool, true, false}
@@ -23,51 +23,19 @@ use Rattle.rules.proofs.Accepts.{accepted-frame}
 use Rattle.desk.proofs.Books.{Framed, framed, inbox-kept, outbox-kept, history-kept, inbox-count, outbox-count, flight-count, history-count}
 use Rattle.history.specs.Tracing.{traceOutcomeOf}
 use Rattle.lots.proofs.TraceJoin.{trace-reply, trace-pieces}
-use Rattle.runner.specs.Step.{handed, steppedOf}
+use Rattle.lines.specs.Writing.{Page, page, put, replyLine}
+use Rattle.rules.specs.Transcript.{replyText}
+use Rattle.lines.proofs.PageLaws.{reply-line, reply-text}
+use Rattle.runner.specs.declared.step.Stepped.{Stepped}
+use Rattle.runner.specs.Step.{Replied, handed, answerText, repliedOf, replied}
 
 abbrev valueCount : Reply → ℕ
 valueCount r = length (r .values)
 
--- whether a call is a trace
-unfoldable pub isTrace : Call → Bool
-isTrace (Call.Deposit d) = false
-isTrace (Call.Claim c) = false
-isTrace (Call.Transfer t) = false
-isTrace (Call.Withdraw w) = false
-isTrace Call.Send = false
-isTrace (Call.Settle n) = false
-isTrace (Call.Grant g) = false
-isTrace (Call.Sign s) = false
-isTrace (Call.Trace n) = true
-
--- no other call is told with one value
-not-one : (s : State) (c : Call) → isTrace c ≡ false → valueCount (told (doneAnswer s c)) ≡ 1 → ⊥
-unfolding isTrace told doneAnswer
-not-one s (Call.Deposit d) e z = omega arith
-not-one s (Call.Claim c) e z = omega arith
-not-one s (Call.Transfer t) e z = omega arith
-not-one s (Call.Withdraw w) e z = omega arith
-not-one s Call.Send e z = omega arith
-not-one s (Call.Settle n) e z = omega arith
-not-one s (Call.Grant g) e z = omega arith
-not-one s (Call.Sign g) e z = omega arith
-not-one s (Call.Trace n) e z = let q : _≡_ {A = ℕ} 0 1 = cc in omega arith
-
--- so its answer hands nothing out
-handed-none : (a : Answer) (ps : List ℕ) (k : ℕ) (d : Reply) → told a ≡ replyWith k d → (valueCount d ≡ 1 → ⊥) → handed a ps ≡ []
-unfolding handed told
-handed-none Answer.Done ps k d e few = refl
-handed-none (Answer.Sent x) ps k d e few = refl
-handed-none (Answer.Traced n) ps zero d e few = absurd (few (ap valueCount (sym e)))
-handed-none (Answer.Traced n) ps (suc k) d e few = absurd (let z : _≡_ {A = ℕ} 1 0 = ap valueCount e in omega arith)
-handed-none (Answer.Refused why) ps k d e few = refl
-
-abbrev replyIn : Outcome → Reply
-replyIn o = o .reply
-
-pub plain-step : (b : Book) (c : Call) (r : Answered) (i o h ps : List ℕ) → isTrace c ≡ false → outcomeOf r i o h ≡ answer b c → steppedOf r i o h ps ≡ answer b c
-unfolding answer
-plain-step b c r i o h ps t e = rw (handed-none (r .answer) ps (replyNumber b c) (told (doneAnswer (view b) c)) (ap replyIn e) (not-one (view b) c t)) e
+-- ---- a call that hands out no pieces
+pub plain-replied : (a : Answered) (i o h : List ℕ) (r : Stepped) (out : List ℕ) (n : ℕ) (p : Page) → r .number ≡ told (a .answer) .number → r .desk ≡ a .desk → page out (r .at) ≡ put p (replyLine n (told (a .answer)))
+    → repliedOf r i o h out ≡ replied n p (outcomeOf a i o h)
+plain-replied a i o h r out n p e f g = rw (e, f, g, reply-line n (outcomeOf a i o h) refl)
 
 -- ---- a trace
 -- a done trace hands out as many rows as there are pieces
@@ -105,9 +73,6 @@ replyFound o = o .reply
 abbrev piecesFound : TraceOutcome → List ℕ
 piecesFound o = o .pieces
 
-same-parts : (o : Outcome) (r : Reply) (p : List Lot) (b : Book) → r ≡ o .reply → p ≡ o .pieces → b ≡ o .book → _≡_ {A = Outcome} (record { reply = r; pieces = p; book = b }) o
-same-parts o r p b e f g = rw (e, f, g)
-
 module _ (b : Book) (work out : List ℕ) (n : Nonce) (a : Answer) (work′ out′ : List ℕ) (w : length work ≡ 4096) (o : length out ≡ 4096) (e : traceOutcomeOf a work′ out′ ≡ traceAnswer b work out n) where
   room : (t : List ℕ) → length t ≡ 4096 → historyRows ≤ length t / lotShape .width
   room t h = rw h (omega arith)
@@ -122,5 +87,9 @@ module _ (b : Book) (work out : List ℕ) (n : Nonce) (a : Answer) (work′ out�
   unfolding answer piecesOf doneAnswer
   pieces-are = handed-traced a (replyNumber b (Call.Trace n)) (piecesOf (view b) (Call.Trace n)) out′ reply-is rows-are
 
-  pub trace-step : (d : Answered) → d ≡ record { answer = a; desk = b .desk } → steppedOf d (b .inbox) (b .outbox) (b .history) out′ ≡ answer b (Call.Trace n)
-  trace-step d q = rw q (same-parts (answer b (Call.Trace n)) (told a) (handed a out′) b reply-is pieces-are (trace-book b n))
+  pub trace-replied : (k : ℕ) (p q : Page) (m : ℕ) → m ≡ told a .number → q ≡ put p (answerText k a out′)
+      → _≡_ {A = Replied} (record { book = b; number = m; text = q }) (replied k p (answer b (Call.Trace n)))
+  unfolding answerText
+  trace-replied k p q m c f =
+      rw (f, c, reply-is, pieces-are, ← reply-text k (answer b (Call.Trace n)))
+      (ap (λ (x : Book). record { book = x; number = answer b (Call.Trace n) .reply .number; text = put p (replyText k (answer b (Call.Trace n))) }) (trace-book b n))

@@ -1,14 +1,31 @@
--- One call's outcome, read off the answer, the pieces' table and the book as the call leaves them; and what the runner keeps between lines.
-use Prim.Native.Nat.{ℕ}
-use mathlib.Core.List.{List, []}
+-- One call answered: the book after it, the reply's number, and the page with the reply's line; and the text of an answer's line.
+use Prim.Native.Nat.{ℕ, _*_}
+use mathlib.Core.List.{List, [], _∷_, _++_}
+use lib.ListN.{take, drop}
 use Rattle.rules.specs.declared.rows.Lot.{Lot}
 use Rattle.rules.specs.declared.answers.Answer.{Answer}
-use Rattle.rules.specs.declared.answers.Answered.{Answered}
-use Rattle.rules.specs.declared.rows.Payment.{Payment}
 use Rattle.rules.specs.Tables.{rowsOf, lotShape}
+use Rattle.rules.specs.Lists.{joined}
+use Rattle.rules.specs.Lines.{lineFeed, tabbed}
 use Rattle.rules.specs.State.{Book}
 use Rattle.rules.specs.Replies.{told}
 use Rattle.rules.specs.Answer.{Outcome, bookOf}
+use Rattle.rules.specs.Transcript.{pieceValues, replyText}
+use Rattle.lines.specs.Writing.{Page, page, put, replyStart}
+use Rattle.runner.specs.declared.step.Stepped.{Stepped}
+
+pub record Replied : Type 0 where
+  pub book : Book
+  pub number : ℕ
+  pub text : Page
+
+-- what a step leaves
+abbrev pub repliedOf : Stepped → List ℕ → List ℕ → List ℕ → List ℕ → Replied
+repliedOf r inbox outbox history out = record { book = bookOf (r .desk) inbox outbox history; number = r .number; text = page out (r .at) }
+
+-- what an outcome is to leave, as line n of what is written
+abbrev pub replied : ℕ → Page → Outcome → Replied
+replied n p o = record { book = o .book; number = o .reply .number; text = put p (replyText n o) }
 
 -- the pieces that an answer hands out: of a done trace so many first rows of their table, of any other none
 unfoldable pub handed : Answer → List ℕ → List Lot
@@ -17,5 +34,17 @@ handed (Answer.Sent x) ps = []
 handed (Answer.Traced n) ps = rowsOf lotShape n ps
 handed (Answer.Refused why) ps = []
 
-abbrev pub steppedOf : Answered → List ℕ → List ℕ → List ℕ → List ℕ → Outcome
-steppedOf r inbox outbox history pieces = record { reply = told (r .answer); pieces = handed (r .answer) pieces; book = bookOf (r .desk) inbox outbox history }
+-- how many pieces an answer hands out
+unfoldable pub handedCount : Answer → ℕ
+handedCount Answer.Done = 0
+handedCount (Answer.Sent x) = 0
+handedCount (Answer.Traced n) = n
+handedCount (Answer.Refused why) = 0
+
+-- the piece in row i of their table
+unfoldable pub pieceAt : ℕ → List ℕ → Lot
+pieceAt i ps = lotShape .row (take 4 (drop (i * 4) ps))
+
+-- an answer's line, with the pieces that lie in their table
+unfoldable pub answerText : ℕ → Answer → List ℕ → List ℕ
+answerText n a ps = replyStart n (told a) ++ tabbed (joined pieceValues (handed a ps)) ++ (lineFeed ∷ [])

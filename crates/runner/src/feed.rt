@@ -1,7 +1,7 @@
 // The input byte after byte, however it is cut into reads.
 use crate::running::Running;
 use crate::running::answer_line;
-use crate::step::raised;
+use crate::tally::raised;
 use lines::read::read_line;
 use lines::write::put_end;
 use lines::write::put_reply_line;
@@ -45,8 +45,6 @@ pub fn feed_byte(
     inbox: &mut [u64],
     outbox: &mut [u64],
     history: &mut [u64],
-    work: &mut [u64; 4096],
-    pieces: &mut [u64; 4096],
     hold: &mut [u8],
     out: &mut [u8],
     b: u8,
@@ -70,7 +68,7 @@ pub fn feed_byte(
         };
     }
     let l = read_line(&hold[..n]);
-    let w = answer_line(run, inbox, outbox, history, work, pieces, out, f.at, l);
+    let w = answer_line(run, inbox, outbox, history, out, f.at, l);
     let running = w.running;
     Feeding {
         running,
@@ -117,8 +115,6 @@ fn feed_part(
     inbox: &mut [u64],
     outbox: &mut [u64],
     history: &mut [u64],
-    work: &mut [u64; 4096],
-    pieces: &mut [u64; 4096],
     hold: &mut [u8],
     out: &mut [u8],
     chunk: &[u8],
@@ -149,7 +145,7 @@ fn feed_part(
             next: k,
         };
     }
-    let fed = feed_byte(g, inbox, outbox, history, work, pieces, hold, out, chunk[k]);
+    let fed = feed_byte(g, inbox, outbox, history, hold, out, chunk[k]);
     Fed {
         feeding: fed,
         next: k + 1,
@@ -164,8 +160,6 @@ pub fn run_some(
     inbox: &mut [u64],
     outbox: &mut [u64],
     history: &mut [u64],
-    work: &mut [u64; 4096],
-    pieces: &mut [u64; 4096],
     hold: &mut [u8],
     out: &mut [u8],
     chunk: &[u8],
@@ -188,17 +182,7 @@ pub fn run_some(
                 next: k,
             };
         }
-        let part = feed_part(
-            g,
-            inbox,
-            outbox,
-            history,
-            work,
-            pieces,
-            hold,
-            out,
-            &chunk[k..],
-        );
+        let part = feed_part(g, inbox, outbox, history, hold, out, &chunk[k..]);
         g = part.feeding;
         k += part.next;
     }

@@ -3,3 +3,5 @@ pub mod feed;
 pub mod running;
 pub mod start;
 pub mod step;
+pub mod tally;
+pub mod traced;

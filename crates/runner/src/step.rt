@@ -1,47 +1,26 @@
-// One call of the nine, and the tally of its reply.
+// One call of the nine: answered, and its reply's line written.
+use crate::traced::put_trace;
+use lines::write::put_reply_line;
+use lines::write::reply_number;
 use rules::answers::Answer;
 use rules::answers::Answered;
 use rules::answers::Refusal;
-use rules::answers::Tally;
 use rules::calls::Call;
 use rules::calls::Line;
 use rules::desk::Desk;
-ghost use Prim.Native.Nat.{_≤_};
 ghost use mathlib.Core.Path.{_≡_};
+ghost use Rattle.rules.specs.Replies.{told};
 ghost use Rattle.rules.specs.Answer.{bookOf, answer};
-ghost use Rattle.rules.specs.Transcript.{answerLine, tallied};
-ghost use Rattle.runner.specs.Step.{steppedOf};
+ghost use Rattle.rules.specs.Transcript.{answerLine};
+ghost use Rattle.lines.specs.Writing.{page, put, replyLine};
+ghost use Rattle.runner.specs.Step.{repliedOf, replied};
 
-// "A read line is one of nine calls": each is answered by its own function. A trace works in the table
-// that is lent for it, hands out its pieces in the other, and leaves the book as it was.
-pub fn step(
-    d: Desk,
-    inbox: &mut [u64],
-    outbox: &mut [u64],
-    history: &mut [u64],
-    work: &mut [u64; 4096],
-    pieces: &mut [u64; 4096],
-    c: Call,
-) -> Answered
-    ensures { λ r. ⌜ steppedOf r (now (inbox .exit)) (now (outbox .exit)) (now (history .exit)) (now (pieces .exit)) ≡ answer (bookOf d (now (inbox .entry)) (now (outbox .entry)) (now (history .entry))) c ⌝ }
-{
-    match c {
-        Call::Deposit(x) => inbox::deposit(d, inbox, outbox, history, x),
-        Call::Claim(x) => inbox::claim(d, inbox, outbox, history, x),
-        Call::Transfer(x) => ledger::transfer(d, inbox, outbox, history, x),
-        Call::Withdraw(x) => outbox::withdraw(d, inbox, outbox, history, x),
-        Call::Send => outbox::send(d, inbox, outbox, history),
-        Call::Settle(n) => outbox::settle(d, inbox, outbox, history, n),
-        Call::Grant(x) => ledger::grant(d, inbox, outbox, history, x),
-        Call::Sign(x) => ledger::sign(d, inbox, outbox, history, x),
-        Call::Trace(n) => {
-            let found = history::trace::trace(d, inbox, outbox, history, work, pieces, n);
-            Answered {
-                answer: found,
-                desk: d,
-            }
-        }
-    }
+// What a step leaves beside the lent tables: the reply's number, the desk, and the place up to which the
+// output is written.
+pub struct Stepped {
+    pub number: u64,
+    pub desk: Desk,
+    pub at: usize,
 }
 
 // What a line gets: the call that it reads as is answered; 1 Malformed leaves the book as it was.
@@ -50,37 +29,85 @@ pub fn line_step(
     inbox: &mut [u64],
     outbox: &mut [u64],
     history: &mut [u64],
-    work: &mut [u64; 4096],
-    pieces: &mut [u64; 4096],
+    out: &mut [u8],
+    at: usize,
+    line: u64,
     l: Line,
-) -> Answered
-    ensures { λ r. ⌜ steppedOf r (now (inbox .exit)) (now (outbox .exit)) (now (history .exit)) (now (pieces .exit)) ≡ answerLine (bookOf d (now (inbox .entry)) (now (outbox .entry)) (now (history .entry))) l ⌝ }
+) -> Stepped
+    ensures { λ r. ⌜ repliedOf r (now (inbox .exit)) (now (outbox .exit)) (now (history .exit)) (now (out .exit)) ≡ replied line (page (now (out .entry)) at) (answerLine (bookOf d (now (inbox .entry)) (now (outbox .entry)) (now (history .entry))) l) ⌝ }
 {
     match l {
-        Line::Reads(c) => step(d, inbox, outbox, history, work, pieces, c),
+        Line::Reads(c) => step(d, inbox, outbox, history, out, at, line, c),
         Line::Malformed => {
             let why = Refusal::Malformed;
             let answer = Answer::Refused(why);
-            Answered { answer, desk: d }
+            put_answered(out, at, line, Answered { answer, desk: d })
         }
     }
 }
 
-// The tally with one reply more.
-pub fn raised(t: Tally, n: u64) -> Tally
-    requires { ⌜ t .done ≤ 100000 ⌝ }
-    requires { ⌜ t .other ≤ 100000 ⌝ }
-    ensures { λ r. ⌜ r ≡ tallied t n ⌝ }
+// "A read line is one of nine calls": each is answered by its own function.
+pub fn step(
+    d: Desk,
+    inbox: &mut [u64],
+    outbox: &mut [u64],
+    history: &mut [u64],
+    out: &mut [u8],
+    at: usize,
+    line: u64,
+    c: Call,
+) -> Stepped
+    ensures { λ r. ⌜ repliedOf r (now (inbox .exit)) (now (outbox .exit)) (now (history .exit)) (now (out .exit)) ≡ replied line (page (now (out .entry)) at) (answer (bookOf d (now (inbox .entry)) (now (outbox .entry)) (now (history .entry))) c) ⌝ }
 {
-    if n == 0 {
-        Tally {
-            done: t.done + 1,
-            other: t.other,
+    match c {
+        Call::Deposit(x) => {
+            let a = inbox::deposit(d, inbox, outbox, history, x);
+            put_answered(out, at, line, a)
         }
-    } else {
-        Tally {
-            done: t.done,
-            other: t.other + 1,
+        Call::Claim(x) => {
+            let a = inbox::claim(d, inbox, outbox, history, x);
+            put_answered(out, at, line, a)
         }
+        Call::Transfer(x) => {
+            let a = ledger::transfer(d, inbox, outbox, history, x);
+            put_answered(out, at, line, a)
+        }
+        Call::Withdraw(x) => {
+            let a = outbox::withdraw(d, inbox, outbox, history, x);
+            put_answered(out, at, line, a)
+        }
+        Call::Send => {
+            let a = outbox::send(d, inbox, outbox, history);
+            put_answered(out, at, line, a)
+        }
+        Call::Settle(n) => {
+            let a = outbox::settle(d, inbox, outbox, history, n);
+            put_answered(out, at, line, a)
+        }
+        Call::Grant(x) => {
+            let a = ledger::grant(d, inbox, outbox, history, x);
+            put_answered(out, at, line, a)
+        }
+        Call::Sign(x) => {
+            let a = ledger::sign(d, inbox, outbox, history, x);
+            put_answered(out, at, line, a)
+        }
+        Call::Trace(n) => put_trace(d, inbox, outbox, history, out, at, line, n),
+    }
+}
+
+// The reply's line of an answer that hands out no pieces.
+fn put_answered(out: &mut [u8], at: usize, line: u64, a: Answered) -> Stepped
+    ensures { λ r. ⌜ r .number ≡ told (a .answer) .number ⌝ }
+    ensures { λ r. ⌜ r .desk ≡ a .desk ⌝ }
+    ensures { λ r. ⌜ page (now (out .exit)) (r .at) ≡ put (page (now (out .entry)) at) (replyLine line (told (a .answer))) ⌝ }
+{
+    let answer = a.answer;
+    let desk = a.desk;
+    let p = put_reply_line(out, at, line, answer);
+    Stepped {
+        number: reply_number(answer),
+        desk,
+        at: p,
     }
 }

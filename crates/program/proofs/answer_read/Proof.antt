@@ -16,7 +16,7 @@ use Rattle.program.proofs.written.Reads as written-reads
 use Rattle.runner.proofs.feed.run_some.Reads as run-some-reads
 
 abbrev Inv-loop : tie.InvT-loop
-Inv-loop inbox₀ outbox₀ history₀ work₀ pieces₀ hold₀ chunk out₀ g₀ from₀ whole₀ inbox outbox history work pieces hold out g from whole =
+Inv-loop inbox₀ outbox₀ history₀ hold₀ chunk out₀ g₀ from₀ whole₀ inbox outbox history hold out g from whole =
     (from ≤ length chunk)
     × Ready g hold
     × (g .at ≡ 0)
@@ -27,7 +27,7 @@ Inv-loop inbox₀ outbox₀ history₀ work₀ pieces₀ hold₀ chunk out₀ g�
     × (length out ≡ length out₀)
 
 abbrev μ-loop : tie.MeasureT-loop
-μ-loop inbox₀ outbox₀ history₀ work₀ pieces₀ hold₀ chunk out₀ g₀ from₀ whole₀ inbox outbox history work pieces hold out g from whole = length chunk - from
+μ-loop inbox₀ outbox₀ history₀ hold₀ chunk out₀ g₀ from₀ whole₀ inbox outbox history hold out g from whole = length chunk - from
 
 -- src/lib.rt:142:5
 loop-holds : tie.Need-loop-holds Inv-loop μ-loop
@@ -47,7 +47,7 @@ part-run-some-end c = search needs
 
 -- src/lib.rt:143:13
 run-some-requires : tie.Need-run-some-requires Inv-loop μ-loop
-run-some-requires c κs = (c .before .before .before .before .before .before .before .before .before .before .loop .inv .1, omega (arith, c .before .before .before .before .before .before .before .before .before .before .loop .inv .2))
+run-some-requires c κs = (c .before .before .before .before .before .before .before .before .loop .inv .1, omega (arith, c .before .before .before .before .before .before .before .before .loop .inv .2))
 
 -- src/lib.rt:156:25
 slice-reshare-prefix-written : tie.Need-slice-reshare-prefix-written Inv-loop μ-loop
@@ -64,27 +64,27 @@ written-requires c κs = search needs
 -- src/lib.rt:162:9
 add-from : tie.Need-add-from Inv-loop μ-loop
 add-from c =
-    let first = c .before .before .before .before .before .before .before .before .before .before .before .before .before .before .before .before .before .before .before .before .before .before .before .before .before .before .before .before .before .before .before .before in
-    let here : c .before .before .before .before .before .before .before .before .before .before .before .before .before .before .before .before .before .before .before .before .before .before .before .before .before .loop .from < length (c .before .before .before .before .before .before .before .before .before .before .before .before .before .before .before .before .before .before .before .before .before .before .before .before .before .before .before .before .before .before .before .before .args .chunk .now) = ltb-true _ _ (c .before .before .before .before .before .before .before .before .before .before .before .before .before .before .before .before .before .before .before .before .before .before .before .if1 .taken) in
-    let rest = rest-length (c .before .before .before .before .before .before .before .before .before .before .before .before .before .before .before .before .before .before .before .before .before .before .before .before .before .before .before .before .before .before .before .before .args .chunk .now) (c .before .before .before .before .before .before .before .before .before .before .before .before .before .before .before .before .before .before .before .before .before .before .before .before .before .loop .from) (from-on (c .before .before .before .before .before .before .before .before .before .before .before .before .before .before .before .before .before .before .before .before .before .before .before .before .before .before .before .before .before .before .before .before .args .chunk .now) (c .before .before .before .before .before .before .before .before .before .before .before .before .before .before .before .before .before .before .before .before .before .before .before .before .before .loop .from)) in
+    let first = c .before .before .before .before .before .before .before .before .before .before .before .before .before .before .before .before .before .before .before .before .before .before .before .before .before .before .before .before .before .before in
+    let here : c .before .before .before .before .before .before .before .before .before .before .before .before .before .before .before .before .before .before .before .before .before .before .before .loop .from < length (c .before .before .before .before .before .before .before .before .before .before .before .before .before .before .before .before .before .before .before .before .before .before .before .before .before .before .before .before .before .before .args .chunk .now) = ltb-true _ _ (c .before .before .before .before .before .before .before .before .before .before .before .before .before .before .before .before .before .before .before .before .before .if1 .taken) in
+    let rest = rest-length (c .before .before .before .before .before .before .before .before .before .before .before .before .before .before .before .before .before .before .before .before .before .before .before .before .before .before .before .before .before .before .args .chunk .now) (c .before .before .before .before .before .before .before .before .before .before .before .before .before .before .before .before .before .before .before .before .before .before .before .loop .from) (from-on (c .before .before .before .before .before .before .before .before .before .before .before .before .before .before .before .before .before .before .before .before .before .before .before .before .before .before .before .before .before .before .args .chunk .now) (c .before .before .before .before .before .before .before .before .before .before .before .before .before .before .before .before .before .before .before .before .before .before .before .loop .from)) in
     let part = c .before .before .before .before .before .before .before .before .before .before .before .before .before .before .run-some .ensures .1 .1 .1 .1 .1 .within in
     omega arith
 
 -- src/lib.rt:142:5
 loop-less : tie.Need-loop-less Inv-loop μ-loop
 loop-less c =
-    let v = c .before .before .before .before .before .before .before .before .before .before .before .before .before .before .before .before .before .before .before .before .before .before .before .before .before .loop in
-    let here : v .from < length (c .before .before .before .before .before .before .before .before .before .before .before .before .before .before .before .before .before .before .before .before .before .before .before .before .before .before .before .before .before .before .before .before .args .chunk .now) = ltb-true _ _ (c .before .before .before .before .before .before .before .before .before .before .before .before .before .before .before .before .before .before .before .before .before .before .before .if1 .taken) in
-    let rest = rest-length (c .before .before .before .before .before .before .before .before .before .before .before .before .before .before .before .before .before .before .before .before .before .before .before .before .before .before .before .before .before .before .before .before .args .chunk .now) (v .from) (from-on (c .before .before .before .before .before .before .before .before .before .before .before .before .before .before .before .before .before .before .before .before .before .before .before .before .before .before .before .before .before .before .before .before .args .chunk .now) (v .from)) in
-    let some = c .before .before .before .before .before .before .before .before .before .before .before .before .before .before .run-some .ensures .1 .1 .1 .1 .1 .some (omega (arith, here, rest)) (omega (arith, v .inv .2, v .inv .7, c .before .before .before .before .before .before .before .before .before .before .before .before .before .before .before .before .before .before .before .before .before .before .before .before .before .before .before .before .before .before .before .before .pre .1 .1)) in
+    let v = c .before .before .before .before .before .before .before .before .before .before .before .before .before .before .before .before .before .before .before .before .before .before .before .loop in
+    let here : v .from < length (c .before .before .before .before .before .before .before .before .before .before .before .before .before .before .before .before .before .before .before .before .before .before .before .before .before .before .before .before .before .before .args .chunk .now) = ltb-true _ _ (c .before .before .before .before .before .before .before .before .before .before .before .before .before .before .before .before .before .before .before .before .before .if1 .taken) in
+    let rest = rest-length (c .before .before .before .before .before .before .before .before .before .before .before .before .before .before .before .before .before .before .before .before .before .before .before .before .before .before .before .before .before .before .args .chunk .now) (v .from) (from-on (c .before .before .before .before .before .before .before .before .before .before .before .before .before .before .before .before .before .before .before .before .before .before .before .before .before .before .before .before .before .before .args .chunk .now) (v .from)) in
+    let some = c .before .before .before .before .before .before .before .before .before .before .before .before .before .before .run-some .ensures .1 .1 .1 .1 .1 .some (omega (arith, here, rest)) (omega (arith, v .inv .2, v .inv .7, c .before .before .before .before .before .before .before .before .before .before .before .before .before .before .before .before .before .before .before .before .before .before .before .before .before .before .before .before .before .before .pre .1 .1)) in
     omega (arith, here, some)
 
 -- src/lib.rt:142:5
 loop-again : tie.Need-loop-again Inv-loop μ-loop
 loop-again c =
-    let v = c .before .before .before .before .before .before .before .before .before .before .before .before .before .before .before .before .before .before .before .before .before .before .before .before .before .loop in
-    let here : v .from < length (c .before .before .before .before .before .before .before .before .before .before .before .before .before .before .before .before .before .before .before .before .before .before .before .before .before .before .before .before .before .before .before .before .args .chunk .now) = ltb-true _ _ (c .before .before .before .before .before .before .before .before .before .before .before .before .before .before .before .before .before .before .before .before .before .before .before .if1 .taken) in
-    let rest = rest-length (c .before .before .before .before .before .before .before .before .before .before .before .before .before .before .before .before .before .before .before .before .before .before .before .before .before .before .before .before .before .before .before .before .args .chunk .now) (v .from) (from-on (c .before .before .before .before .before .before .before .before .before .before .before .before .before .before .before .before .before .before .before .before .before .before .before .before .before .before .before .before .before .before .before .before .args .chunk .now) (v .from)) in
+    let v = c .before .before .before .before .before .before .before .before .before .before .before .before .before .before .before .before .before .before .before .before .before .before .before .loop in
+    let here : v .from < length (c .before .before .before .before .before .before .before .before .before .before .before .before .before .before .before .before .before .before .before .before .before .before .before .before .before .before .before .before .before .before .args .chunk .now) = ltb-true _ _ (c .before .before .before .before .before .before .before .before .before .before .before .before .before .before .before .before .before .before .before .before .before .if1 .taken) in
+    let rest = rest-length (c .before .before .before .before .before .before .before .before .before .before .before .before .before .before .before .before .before .before .before .before .before .before .before .before .before .before .before .before .before .before .args .chunk .now) (v .from) (from-on (c .before .before .before .before .before .before .before .before .before .before .before .before .before .before .before .before .before .before .before .before .before .before .before .before .before .before .before .before .before .before .args .chunk .now) (v .from)) in
     let r = c .before .before .before .before .before .before .before .before .before .before .before .before .before .before .run-some in
     let within = r .ensures .1 .1 .1 .1 .1 .within in
     (omega (arith, here, rest, within), record { counted = r .ensures .1 .1 .0 .counted; held = r .ensures .1 .1 .0 .held; size = r .ensures .1 .1 .0 .size }, refl, search needs, search needs, search needs, search needs, search needs)

@@ -70,7 +70,7 @@ same-length-6 c = search needs
 
 -- src/lib.rt:81:1
 same-length-7 : tie.Need-same-length-7
-same-length-7 c = c .before .before .before .before .before .before .before .before .before .before .before .before .before .before .before .before .before .before .before .before .before .before .before .before .input .given
+same-length-7 c = c .before .before .before .before .before .before .before .before .before .before .before .before .before .before .before .before .before .before .before .before .before .before .input .given
 
 -- src/lib.rt:81:1
 same-length-8 : tie.Need-same-length-8

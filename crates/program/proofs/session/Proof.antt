@@ -17,7 +17,7 @@ use Rattle.runner.proofs.feed.close.Reads as close-reads
 use Rattle.runner.proofs.start.start.Reads as start-reads
 
 abbrev Inv-loop : tie.InvT-loop
-Inv-loop fd inbox₀ outbox₀ history₀ work₀ pieces₀ hold₀ input₀ out₀ t₀ turns₀ inbox outbox history work pieces hold input out t turns =
+Inv-loop fd inbox₀ outbox₀ history₀ hold₀ input₀ out₀ t₀ turns₀ inbox outbox history hold input out t turns =
     Ready (t .feeding) hold
     × (t .feeding .at ≡ 0)
     × (length inbox ≡ length inbox₀)
@@ -28,7 +28,7 @@ Inv-loop fd inbox₀ outbox₀ history₀ work₀ pieces₀ hold₀ input₀ out
     × (length out ≡ length out₀)
 
 abbrev μ-loop : tie.MeasureT-loop
-μ-loop fd inbox₀ outbox₀ history₀ work₀ pieces₀ hold₀ input₀ out₀ t₀ turns₀ inbox outbox history work pieces hold input out t turns = turns
+μ-loop fd inbox₀ outbox₀ history₀ hold₀ input₀ out₀ t₀ turns₀ inbox outbox history hold input out t turns = turns
 
 -- src/lib.rt:58:9
 start-requires : tie.Need-start-requires Inv-loop μ-loop
@@ -40,15 +40,15 @@ loop-holds c = (begun-ready (c .start .result) (c .before .before .before .befor
 
 -- src/lib.rt:66:9
 read-once-requires : tie.Need-read-once-requires Inv-loop μ-loop
-read-once-requires c κs = (c .before .before .before .before .before .before .before .before .before .before .loop .inv .0, (c .before .before .before .before .before .before .before .before .before .before .loop .inv .1, omega (arith, c .before .before .before .before .before .before .before .before .before .before .loop .inv .7, c .before .before .before .before .before .before .before .before .before .before .before .before .before .before .before .before .before .before .pre .1)))
+read-once-requires c κs = (c .before .before .before .before .before .before .before .before .loop .inv .0, (c .before .before .before .before .before .before .before .before .loop .inv .1, omega (arith, c .before .before .before .before .before .before .before .before .loop .inv .7, c .before .before .before .before .before .before .before .before .before .before .before .before .before .before .before .before .pre .1)))
 
 -- src/lib.rt:69:9
 sub-turns : tie.Need-sub-turns Inv-loop μ-loop
-sub-turns c = let more : 0 < c .before .before .before .before .before .before .before .before .before .before .before .before .before .before .before .before .before .before .before .before .before .before .before .loop .turns = ltb-true _ _ (c .before .before .before .before .before .before .before .before .before .before .before .before .before .before .before .before .before .before .before .before .before .if1 .taken) in omega arith
+sub-turns c = let more : 0 < c .before .before .before .before .before .before .before .before .before .before .before .before .before .before .before .before .before .before .before .before .before .loop .turns = ltb-true _ _ (c .before .before .before .before .before .before .before .before .before .before .before .before .before .before .before .before .before .before .before .if1 .taken) in omega arith
 
 -- src/lib.rt:65:5
 loop-less : tie.Need-loop-less Inv-loop μ-loop
-loop-less c = let more : 0 < c .before .before .before .before .before .before .before .before .before .before .before .before .before .before .before .before .before .before .before .before .before .before .before .loop .turns = ltb-true _ _ (c .before .before .before .before .before .before .before .before .before .before .before .before .before .before .before .before .before .before .before .before .before .if1 .taken) in omega arith
+loop-less c = let more : 0 < c .before .before .before .before .before .before .before .before .before .before .before .before .before .before .before .before .before .before .before .before .before .loop .turns = ltb-true _ _ (c .before .before .before .before .before .before .before .before .before .before .before .before .before .before .before .before .before .before .before .if1 .taken) in omega arith
 
 -- src/lib.rt:65:5
 loop-again : tie.Need-loop-again Inv-loop μ-loop

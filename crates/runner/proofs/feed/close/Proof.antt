@@ -12,7 +12,7 @@ use Rattle.runner.proofs.feed.close.Reads as reads
 use Rattle.runner.proofs.feed.close.Lts as lts
 use Rattle.lines.proofs.write.put_end.Reads as put-end-reads
 use Rattle.lines.proofs.write.put_reply_line.Reads as put-reply-line-reads
-use Rattle.runner.proofs.step.raised.Reads as raised-reads
+use Rattle.runner.proofs.tally.raised.Reads as raised-reads
 
 -- src/feed.rt:147:9
 put-end-requires : tie.Need-put-end-requires

@@ -79,12 +79,12 @@ same-length-6 c = search needs
 -- src/feed.rt:42:1
 returns-3 : tie.Need-returns-3
 returns-3 c =
-    let a = c .before .before .before .before .before .before .before .before .before .before .before .before .before .before .before .before .before .before .before .before .before .before .before .before .before .before .before .args in
+    let a = c .before .before .before .before .before .before .before .before .before .before .before .before .before .before .before .before .before .before .before .before .before .before .before .before .before .args in
     let w = c .before .before .before .before .before .before .before .before .before .answer-line in (
-      line-fed (a .f .running) (a .inbox .now) (a .outbox .now) (a .history .now) (take (a .f .held) (a .hold .now)) (a .b) (c .before .before .before .before .before .before .before .before .before .before .before .before .before .before .before .before .before .before .before .if1 .left) (c .before .before .before .before .before .before .before .before .before .before .before .before .before .before .before .before .before .before .if2 .left) (c .before .before .before .before .before .before .before .before .before .before .before .before .before .before .before .before .read-line .result) (c .before .before .before .before .before .before .before .before .before .before .before .before .before .before .before .before .read-line .ensures) _ (w .ensures .0),
+      line-fed (a .f .running) (a .inbox .now) (a .outbox .now) (a .history .now) (take (a .f .held) (a .hold .now)) (a .b) (c .before .before .before .before .before .before .before .before .before .before .before .before .before .before .before .before .before .if1 .left) (c .before .before .before .before .before .before .before .before .before .before .before .before .before .before .before .before .if2 .left) (c .before .before .before .before .before .before .before .before .before .before .before .before .before .before .read-line .result) (c .before .before .before .before .before .before .before .before .before .before .before .before .before .before .read-line .ensures) _ (w .ensures .0),
       (
-        line-written (a .f .running) (a .inbox .now) (a .outbox .now) (a .history .now) (take (a .f .held) (a .hold .now)) (a .b) (c .before .before .before .before .before .before .before .before .before .before .before .before .before .before .before .before .before .before .before .if1 .left) (c .before .before .before .before .before .before .before .before .before .before .before .before .before .before .before .before .before .before .if2 .left) (c .before .before .before .before .before .before .before .before .before .before .before .before .before .before .before .before .read-line .result) (c .before .before .before .before .before .before .before .before .before .before .before .before .before .before .before .before .read-line .ensures) (page (a .out .now) (a .f .at)) (w .ensures .1 .0),
-        record { counted = w .ensures .1 .1; held = omega arith; size = c .before .before .before .before .before .before .before .before .before .before .before .before .before .before .before .before .before .before .before .before .before .before .before .before .before .before .before .pre .size },
+        line-written (a .f .running) (a .inbox .now) (a .outbox .now) (a .history .now) (take (a .f .held) (a .hold .now)) (a .b) (c .before .before .before .before .before .before .before .before .before .before .before .before .before .before .before .before .before .if1 .left) (c .before .before .before .before .before .before .before .before .before .before .before .before .before .before .before .before .if2 .left) (c .before .before .before .before .before .before .before .before .before .before .before .before .before .before .read-line .result) (c .before .before .before .before .before .before .before .before .before .before .before .before .before .before .read-line .ensures) (page (a .out .now) (a .f .at)) (w .ensures .1 .0),
+        record { counted = w .ensures .1 .1; held = omega arith; size = c .before .before .before .before .before .before .before .before .before .before .before .before .before .before .before .before .before .before .before .before .before .before .before .before .before .pre .size },
       ),
     )
 

@@ -64,11 +64,11 @@ feed-byte-requires : tie.Need-feed-byte-requires
 feed-byte-requires c κs = search needs
 
 -- src/feed.rt:155:15
-add-t19 : tie.Need-add-t19
-add-t19 c =
-    let first = c .before .before .before .before .before .before .before .before .before .before .before .before .before .before .before .before .before .before .before .before .before .before .before .before .before .before .before .before .before .before .before .before .before in
-    let known = c .before .before .before .before .before .before .before .before .before .before .before .before .before .before .before .before .before .before .before .before .before .before .before .before .before .before .before .shared-slice-known in
-    let inside : c .before .before .before .before .before .before .before .before .before .before .before .before .before .before .before .before .before .before .before .before .before .before .hold-part .result .next < length (c .before .before .before .before .before .before .before .before .before .before .before .before .before .before .before .before .before .before .before .before .before .before .before .before .before .before .before .before .before .before .before .before .before .args .chunk .now) = c .before .before .before .before .before .before .before .before .before .before .before .before .before .before .before .before .before .before .before .if2 .left in
+add-t17 : tie.Need-add-t17
+add-t17 c =
+    let first = c .before .before .before .before .before .before .before .before .before .before .before .before .before .before .before .before .before .before .before .before .before .before .before .before .before .before .before .before .before .before .before in
+    let known = c .before .before .before .before .before .before .before .before .before .before .before .before .before .before .before .before .before .before .before .before .before .before .before .before .before .shared-slice-known in
+    let inside : c .before .before .before .before .before .before .before .before .before .before .before .before .before .before .before .before .before .before .before .before .hold-part .result .next < length (c .before .before .before .before .before .before .before .before .before .before .before .before .before .before .before .before .before .before .before .before .before .before .before .before .before .before .before .before .before .before .before .args .chunk .now) = c .before .before .before .before .before .before .before .before .before .before .before .before .before .before .before .before .before .if2 .left in
     omega arith
 
 -- src/feed.rt:115:1
@@ -94,14 +94,14 @@ same-length-6 c = search needs
 -- src/feed.rt:115:1
 returns-3 : tie.Need-returns-3
 returns-3 c =
-    let a = c .before .before .before .before .before .before .before .before .before .before .before .before .before .before .before .before .before .before .before .before .before .before .before .before .before .before .before .before .before .before .before .before .before .args in
-    let h = c .before .before .before .before .before .before .before .before .before .before .before .before .before .before .before .before .before .before .before .before .before .before .hold-part in
+    let a = c .before .before .before .before .before .before .before .before .before .before .before .before .before .before .before .before .before .before .before .before .before .before .before .before .before .before .before .before .before .before .before .args in
+    let h = c .before .before .before .before .before .before .before .before .before .before .before .before .before .before .before .before .before .before .before .before .hold-part in
     let k = h .result .next in
     let held = take (a .f .held) (a .hold .now) in
-    let few = c .before .before .before .before .before .before .before .before .before .before .before .before .before .before .before .before .before .before .before .before .before .before .before .before .if1 .left in
+    let few = c .before .before .before .before .before .before .before .before .before .before .before .before .before .before .before .before .before .before .before .before .before .before .if1 .left in
     let m : Machine = fedMachine (a .f) (a .inbox .now) (a .outbox .now) (a .history .now) (a .hold .now) in
     let none : writes m (take k (a .chunk .now)) ≡ [] = part-written (a .f .running) (a .inbox .now) (a .outbox .now) (a .history .now) held (take k (a .chunk .now)) few (h .ensures .1 .noFeed) in
-    let inside : k < length (a .chunk .now) = c .before .before .before .before .before .before .before .before .before .before .before .before .before .before .before .before .before .before .before .if2 .left in
+    let inside : k < length (a .chunk .now) = c .before .before .before .before .before .before .before .before .before .before .before .before .before .before .before .before .before .if2 .left in
     let so-far = part-fed (a .f .running) (a .inbox .now) (a .outbox .now) (a .history .now) held (take k (a .chunk .now)) _ few (h .ensures .1 .noFeed) (h .ensures .0) in
     let b = c .before .before .before .before .before .before .before .before .before .before .feed-byte in (
       feed-more m (a .chunk .now) k inside so-far (b .ensures .0),
@@ -121,7 +121,7 @@ feed-part-spec =
     returns-2
     shared-slice-read-feed-byte
     feed-byte-requires
-    add-t19
+    add-t17
     same-length-2
     same-length-3
     same-length-4

@@ -38,7 +38,7 @@ some-moved zero n n₀ at at₀ e z h r = absurd (let y = z refl in omega (arith
 some-moved (suc k) n n₀ at at₀ e z h r = omega arith
 
 abbrev Inv-loop : tie.InvT-loop
-Inv-loop inbox₀ outbox₀ history₀ work₀ pieces₀ hold₀ out₀ chunk g₀ k₀ inbox outbox history work pieces hold out g k =
+Inv-loop inbox₀ outbox₀ history₀ hold₀ out₀ chunk g₀ k₀ inbox outbox history hold out g k =
     (k ≤ length chunk)
     × (fedMachine g inbox outbox history hold ≡ feeds (fedMachine g₀ inbox₀ outbox₀ history₀ hold₀) (take k chunk))
     × (page out (g .at) ≡ put (page out₀ (g₀ .at)) (writes (fedMachine g₀ inbox₀ outbox₀ history₀ hold₀) (take k chunk)))
@@ -52,7 +52,7 @@ Inv-loop inbox₀ outbox₀ history₀ work₀ pieces₀ hold₀ out₀ chunk g�
     × (k ≡ 0 → g .at ≡ g₀ .at)
 
 abbrev μ-loop : tie.MeasureT-loop
-μ-loop inbox₀ outbox₀ history₀ work₀ pieces₀ hold₀ out₀ chunk g₀ k₀ inbox outbox history work pieces hold out g k = length chunk - k
+μ-loop inbox₀ outbox₀ history₀ hold₀ out₀ chunk g₀ k₀ inbox outbox history hold out g k = length chunk - k
 
 -- src/feed.rt:111:5
 loop-holds : tie.Need-loop-holds Inv-loop μ-loop
@@ -105,23 +105,23 @@ part-feed-part-end c = search needs
 
 -- src/feed.rt:118:9
 feed-part-requires : tie.Need-feed-part-requires Inv-loop μ-loop
-feed-part-requires c κs = c .before .before .before .before .before .before .before .before .before .before .before .loop .inv .3
+feed-part-requires c κs = c .before .before .before .before .before .before .before .before .before .loop .inv .3
 
 -- src/feed.rt:121:9
 add-k : tie.Need-add-k Inv-loop μ-loop
 add-k c =
-    let first = c .before .before .before .before .before .before .before .before .before .before .before .before .before .before .before .before .before .before .before .before .before .before .before .before .before .before .before .before .before .before .before in
-    let here : c .before .before .before .before .before .before .before .before .before .before .before .before .before .before .before .before .before .before .before .before .before .before .before .before .loop .k < length (c .before .before .before .before .before .before .before .before .before .before .before .before .before .before .before .before .before .before .before .before .before .before .before .before .before .before .before .before .before .before .before .args .chunk .now) = c .before .before .before .before .before .before .before .before .before .before .before .before .before .before .before .before .before .before .before .before .before .before .before .loop-test .taken in
-    let rest = rest-length (c .before .before .before .before .before .before .before .before .before .before .before .before .before .before .before .before .before .before .before .before .before .before .before .before .before .before .before .before .before .before .before .args .chunk .now) (c .before .before .before .before .before .before .before .before .before .before .before .before .before .before .before .before .before .before .before .before .before .before .before .before .loop .k) (from-on (c .before .before .before .before .before .before .before .before .before .before .before .before .before .before .before .before .before .before .before .before .before .before .before .before .before .before .before .before .before .before .before .args .chunk .now) (c .before .before .before .before .before .before .before .before .before .before .before .before .before .before .before .before .before .before .before .before .before .before .before .before .loop .k)) in
+    let first = c .before .before .before .before .before .before .before .before .before .before .before .before .before .before .before .before .before .before .before .before .before .before .before .before .before .before .before .before .before in
+    let here : c .before .before .before .before .before .before .before .before .before .before .before .before .before .before .before .before .before .before .before .before .before .before .loop .k < length (c .before .before .before .before .before .before .before .before .before .before .before .before .before .before .before .before .before .before .before .before .before .before .before .before .before .before .before .before .before .args .chunk .now) = c .before .before .before .before .before .before .before .before .before .before .before .before .before .before .before .before .before .before .before .before .before .loop-test .taken in
+    let rest = rest-length (c .before .before .before .before .before .before .before .before .before .before .before .before .before .before .before .before .before .before .before .before .before .before .before .before .before .before .before .before .before .args .chunk .now) (c .before .before .before .before .before .before .before .before .before .before .before .before .before .before .before .before .before .before .before .before .before .before .loop .k) (from-on (c .before .before .before .before .before .before .before .before .before .before .before .before .before .before .before .before .before .before .before .before .before .before .before .before .before .before .before .before .before .args .chunk .now) (c .before .before .before .before .before .before .before .before .before .before .before .before .before .before .before .before .before .before .before .before .before .before .loop .k)) in
     let part = c .before .before .before .before .before .before .before .before .before .before .before .before .feed-part .ensures .1 .1 .1 .within in
     omega arith
 
 -- src/feed.rt:111:5
 loop-less : tie.Need-loop-less Inv-loop μ-loop
 loop-less c =
-    let v = c .before .before .before .before .before .before .before .before .before .before .before .before .before .before .before .before .before .before .before .before .before .before .before .before .loop in
-    let a = c .before .before .before .before .before .before .before .before .before .before .before .before .before .before .before .before .before .before .before .before .before .before .before .before .before .before .before .before .before .before .before .args in
-    let here : v .k < length (a .chunk .now) = c .before .before .before .before .before .before .before .before .before .before .before .before .before .before .before .before .before .before .before .before .before .before .before .loop-test .taken in
+    let v = c .before .before .before .before .before .before .before .before .before .before .before .before .before .before .before .before .before .before .before .before .before .before .loop in
+    let a = c .before .before .before .before .before .before .before .before .before .before .before .before .before .before .before .before .before .before .before .before .before .before .before .before .before .before .before .before .before .args in
+    let here : v .k < length (a .chunk .now) = c .before .before .before .before .before .before .before .before .before .before .before .before .before .before .before .before .before .before .before .before .before .loop-test .taken in
     let tail = from-on (a .chunk .now) (v .k) in
     let rest = rest-length (a .chunk .now) (v .k) tail in
     let some = c .before .before .before .before .before .before .before .before .before .before .before .before .feed-part .ensures .1 .1 .1 .some (omega (arith, here, rest)) in
@@ -130,17 +130,17 @@ loop-less c =
 -- src/feed.rt:111:5
 loop-again : tie.Need-loop-again Inv-loop μ-loop
 loop-again c =
-    let a = c .before .before .before .before .before .before .before .before .before .before .before .before .before .before .before .before .before .before .before .before .before .before .before .before .before .before .before .before .before .before .before .args in
-    let v = c .before .before .before .before .before .before .before .before .before .before .before .before .before .before .before .before .before .before .before .before .before .before .before .before .loop in
+    let a = c .before .before .before .before .before .before .before .before .before .before .before .before .before .before .before .before .before .before .before .before .before .before .before .before .before .before .before .before .before .args in
+    let v = c .before .before .before .before .before .before .before .before .before .before .before .before .before .before .before .before .before .before .before .before .before .before .loop in
     let m : Machine = fedMachine (a .f) (a .inbox .now) (a .outbox .now) (a .history .now) (a .hold .now) in
-    let here : v .k < length (a .chunk .now) = c .before .before .before .before .before .before .before .before .before .before .before .before .before .before .before .before .before .before .before .before .before .before .before .loop-test .taken in
+    let here : v .k < length (a .chunk .now) = c .before .before .before .before .before .before .before .before .before .before .before .before .before .before .before .before .before .before .before .before .before .loop-test .taken in
     let tail = from-on (a .chunk .now) (v .k) in
     let rest = rest-length (a .chunk .now) (v .k) tail in
     let p = c .before .before .before .before .before .before .before .before .before .before .before .before .feed-part in
     let n = p .result .next in
     let within = p .ensures .1 .1 .1 .within in
     let some = p .ensures .1 .1 .1 .some (omega (arith, here, rest)) in
-    let room = holds-room (c .before .before .before .before .before .before .before .before .before .before .before .before .before .before .before .before .before .before .before .before .before .before .has-room .result) _ (c .before .before .before .before .before .before .before .before .before .before .before .before .before .before .before .before .before .before .before .before .before .before .has-room .ensures) (c .before .before .before .before .before .before .before .before .before .before .before .before .before .before .before .before .before .before .before .before .before .if1 .left) in (
+    let room = holds-room (c .before .before .before .before .before .before .before .before .before .before .before .before .before .before .before .before .before .before .before .before .has-room .result) _ (c .before .before .before .before .before .before .before .before .before .before .before .before .before .before .before .before .before .before .before .before .has-room .ensures) (c .before .before .before .before .before .before .before .before .before .before .before .before .before .before .before .before .before .before .before .if1 .left) in (
       omega (arith, here, rest, within),
       part-more m (a .chunk .now) (v .k) n tail (v .inv .1) (p .ensures .0),
       text-more m (a .chunk .now) (v .k) n tail (v .inv .1) (page (a .out .now) (a .f .at)) (v .inv .2) (p .ensures .1 .0),

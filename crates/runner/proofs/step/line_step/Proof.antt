@@ -1,55 +1,71 @@
 use mathlib.Core.Path.{_≡_, refl, sym, ap, _∙_}
 use Rattle.rules.specs.State.{Book}
-use Rattle.rules.specs.Replies.{told}
 use Rattle.rules.specs.Answer.{bookOf}
 use Rattle.rules.specs.Transcript.{answerLine}
-use Rattle.runner.specs.Step.{handed}
+use Rattle.rules.specs.declared.calls.Line.{Line}
+use Rattle.lines.specs.Writing.{page}
+use Rattle.runner.specs.Step.{replied}
+use Rattle.runner.proofs.Steps.{plain-replied}
 use borrow.Author.Needs.{needs}
 use Rattle.runner.proofs.step.line_step.Statement.{statement}
 use Rattle.runner.proofs.step.line_step.Tie as tie
 use Rattle.runner.proofs.step.line_step.Reads as reads
 use Rattle.runner.proofs.step.line_step.Lts as lts
+use Rattle.runner.proofs.step.put_answered.Reads as put-answered-reads
 use Rattle.runner.proofs.step.step.Reads as step-reads
 
--- src/step.rt:60:21
+-- src/step.rt:40:21
 enum-known-l : tie.Need-enum-known-l
 enum-known-l c = search needs
 
--- src/step.rt:60:27
+-- src/step.rt:40:27
 step-requires : tie.Need-step-requires
 step-requires c κs = search needs
 
--- src/step.rt:62:17
+-- src/step.rt:42:17
 enum-told : tie.Need-enum-told
 enum-told c = search needs
 
--- src/step.rt:48:1
+-- src/step.rt:44:13
+put-answered-requires : tie.Need-put-answered-requires
+put-answered-requires c κs = search needs
+
+-- src/step.rt:27:1
 same-length : tie.Need-same-length
 same-length c = search needs
 
--- src/step.rt:48:1
+-- src/step.rt:27:1
 same-length-2 : tie.Need-same-length-2
 same-length-2 c = search needs
 
--- src/step.rt:48:1
+-- src/step.rt:27:1
 same-length-3 : tie.Need-same-length-3
 same-length-3 c = search needs
 
--- src/step.rt:48:1
+-- src/step.rt:27:1
+same-length-4 : tie.Need-same-length-4
+same-length-4 c = search needs
+
+-- src/step.rt:27:1
 returns : tie.Need-returns
 unfolding answerLine
 returns c =
-    let a = c .before .before .before .before .before .before .before .before .before .before .before .before .before .before .before .before .before .before .args in
+    let a = c .before .before .before .before .before .before .before .before .before .before .before .before .before .before .before .before .before .before .before .before .args in
     let b : Book = bookOf (a .d) (a .inbox .now) (a .outbox .now) (a .history .now) in
-    c .before .before .before .before .before .before .step .ensures ∙ sym (ap (answerLine b) (c .before .before .before .before .before .before .before .before .before .before .before .before .before .l .given .1))
+    c .before .before .before .before .before .before .before .before .step .ensures ∙ sym (ap (λ (l : Line). replied (a .line) (page (a .out .now) (a .at)) (answerLine b l)) (c .before .before .before .before .before .before .before .before .before .before .before .before .before .before .l .given .1))
 
--- src/step.rt:48:1
+-- src/step.rt:27:1
+same-length-5 : tie.Need-same-length-5
+same-length-5 c = search needs
+
+-- src/step.rt:27:1
 returns-2 : tie.Need-returns-2
-unfolding answerLine handed
+unfolding answerLine
 returns-2 c =
-    let a = c .before .before .before .before .before .args in
+    let a = c .before .before .before .before .before .before .before .before .before .before .args in
     let b : Book = bookOf (a .d) (a .inbox .now) (a .outbox .now) (a .history .now) in
-    sym (ap (answerLine b) (c .enum-told .given .1))
+    let w = c .before .before .put-answered in
+    plain-replied _ (a .inbox .now) (a .outbox .now) (a .history .now) (w .result) (w .last .0) (a .line) (page (a .out .now) (a .at)) (w .ensures .0) (w .ensures .1 .0) (w .ensures .1 .1) ∙ sym (ap (λ (l : Line). replied (a .line) (page (a .out .now) (a .at)) (answerLine b l)) (c .before .before .before .before .enum-told .given .1))
 
 pub line-step-spec : {M : Type 1} → statement M
 line-step-spec =
@@ -58,8 +74,11 @@ line-step-spec =
     enum-known-l
     step-requires
     enum-told
+    put-answered-requires
     same-length
     same-length-2
     same-length-3
+    same-length-4
     returns
+    same-length-5
     returns-2)

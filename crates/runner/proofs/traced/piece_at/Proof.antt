@@ -1,9 +1,9 @@
 use Rattle.runner.proofs.Pages.{piece-past, piece-here}
 use borrow.Author.Needs.{needs}
-use Rattle.runner.proofs.running.piece_at.Statement.{statement}
-use Rattle.runner.proofs.running.piece_at.Tie as tie
-use Rattle.runner.proofs.running.piece_at.Reads as reads
-use Rattle.runner.proofs.running.piece_at.Lts as lts
+use Rattle.runner.proofs.traced.piece_at.Statement.{statement}
+use Rattle.runner.proofs.traced.piece_at.Tie as tie
+use Rattle.runner.proofs.traced.piece_at.Reads as reads
+use Rattle.runner.proofs.traced.piece_at.Lts as lts
 
 -- src/running.rt:115:9
 returns : tie.Need-returns

@@ -1,9 +1,9 @@
 use Rattle.runner.proofs.Pages.{raised-done, raised-other}
 use borrow.Author.Needs.{needs}
-use Rattle.runner.proofs.step.raised.Statement.{statement}
-use Rattle.runner.proofs.step.raised.Tie as tie
-use Rattle.runner.proofs.step.raised.Reads as reads
-use Rattle.runner.proofs.step.raised.Lts as lts
+use Rattle.runner.proofs.tally.raised.Statement.{statement}
+use Rattle.runner.proofs.tally.raised.Tie as tie
+use Rattle.runner.proofs.tally.raised.Reads as reads
+use Rattle.runner.proofs.tally.raised.Lts as lts
 
 -- src/step.rt:77:19
 add-t5 : tie.Need-add-t5

@@ -1,14 +1,14 @@
 use Rattle.lines.specs.Writing.{page}
 use Rattle.runner.proofs.Pages.{answer-text}
 use borrow.Author.Needs.{needs}
-use Rattle.runner.proofs.running.put_outcome.Statement.{statement}
-use Rattle.runner.proofs.running.put_outcome.Tie as tie
-use Rattle.runner.proofs.running.put_outcome.Reads as reads
-use Rattle.runner.proofs.running.put_outcome.Lts as lts
+use Rattle.runner.proofs.traced.put_outcome.Statement.{statement}
+use Rattle.runner.proofs.traced.put_outcome.Tie as tie
+use Rattle.runner.proofs.traced.put_outcome.Reads as reads
+use Rattle.runner.proofs.traced.put_outcome.Lts as lts
 use Rattle.lines.proofs.write.put_answer.Reads as put-answer-reads
 use Rattle.lines.proofs.write.put_line_feed.Reads as put-line-feed-reads
-use Rattle.runner.proofs.running.piece_count.Reads as piece-count-reads
-use Rattle.runner.proofs.running.put_pieces.Reads as put-pieces-reads
+use Rattle.runner.proofs.traced.piece_count.Reads as piece-count-reads
+use Rattle.runner.proofs.traced.put_pieces.Reads as put-pieces-reads
 
 -- src/running.rt:76:9
 put-answer-requires : tie.Need-put-answer-requires

@@ -5,12 +5,12 @@ use lib.ListN.{length}
 use Rattle.lines.specs.Writing.{page, put}
 use Rattle.runner.proofs.Pages.{piecesText, no-pieces, more-pieces}
 use borrow.Author.Needs.{needs}
-use Rattle.runner.proofs.running.put_pieces.Statement.{statement}
-use Rattle.runner.proofs.running.put_pieces.Tie as tie
-use Rattle.runner.proofs.running.put_pieces.Reads as reads
-use Rattle.runner.proofs.running.put_pieces.Lts as lts
+use Rattle.runner.proofs.traced.put_pieces.Statement.{statement}
+use Rattle.runner.proofs.traced.put_pieces.Tie as tie
+use Rattle.runner.proofs.traced.put_pieces.Reads as reads
+use Rattle.runner.proofs.traced.put_pieces.Lts as lts
 use Rattle.lines.proofs.write.put_piece.Reads as put-piece-reads
-use Rattle.runner.proofs.running.piece_at.Reads as piece-at-reads
+use Rattle.runner.proofs.traced.piece_at.Reads as piece-at-reads
 
 abbrev Inv-loop : tie.InvT-loop
 Inv-loop out₀ at pieces n p₀ i₀ out p i = (i ≤ n) × (page out p ≡ put (page out₀ at) (piecesText i pieces)) × (length out ≡ length out₀)

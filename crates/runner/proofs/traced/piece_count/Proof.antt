@@ -1,10 +1,10 @@
 use mathlib.Core.Path.{_≡_, refl, sym, ap, _∙_}
-use Rattle.runner.specs.Running.{handedCount}
+use Rattle.runner.specs.Step.{handedCount}
 use borrow.Author.Needs.{needs}
-use Rattle.runner.proofs.running.piece_count.Statement.{statement}
-use Rattle.runner.proofs.running.piece_count.Tie as tie
-use Rattle.runner.proofs.running.piece_count.Reads as reads
-use Rattle.runner.proofs.running.piece_count.Lts as lts
+use Rattle.runner.proofs.traced.piece_count.Statement.{statement}
+use Rattle.runner.proofs.traced.piece_count.Tie as tie
+use Rattle.runner.proofs.traced.piece_count.Reads as reads
+use Rattle.runner.proofs.traced.piece_count.Lts as lts
 
 -- src/running.rt:86:25
 enum-told : tie.Need-enum-told
