@@ -178,12 +178,16 @@ def table(head, rows):
         print("| " + " | ".join(str(cell) for cell in row) + " |", flush=True)
 
 
+def machine_kind():
+    return f"{platform.machine()}, {os.cpu_count()} cores"
+
+
 def machine(as_rt=False):
     """What the times were measured on, in a few words."""
     how = ", all programs under the toolchain's emulator of x86-64" if emulated() else ""
     if emulated() and not as_rt:
         how += ", without `rep` instructions"
-    return f"{platform.machine()}, {os.cpu_count()} cores{how}"
+    return machine_kind() + how
 
 
 def in_ms(seconds):
