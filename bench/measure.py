@@ -108,10 +108,16 @@ def is_elf(path):
         return file.read(4) == b"\x7fELF"
 
 
-def book_command(named=None):
-    """How to run the program. `./book` is a script around the linked program: where that is found it is
-    run without the script, just as the C program is."""
-    for path in [named] if named else [os.path.join(TOP, "target", "bin", "book"), os.path.join(TOP, "book")]:
+def book_places(whole):
+    """Where the program is looked for: the linked program, and the script `./book` that runs it; whole: the
+    script first, as one types it."""
+    places = [os.path.join(TOP, "target", "bin", "book"), os.path.join(TOP, "book")]
+    return places[::-1] if whole else places
+
+
+def book_command(named=None, whole=False):
+    """How to run the program. The linked program is run just as the C program is."""
+    for path in [named] if named else book_places(whole):
         if os.path.exists(path):
             path = os.path.abspath(path)
             return run_by() + [path] if is_elf(path) else [path]
