@@ -2,21 +2,21 @@
 use Prim.Native.Nat.{ℕ, zero, suc, _+_}
 use mathlib.Core.Path.{_≡_, refl, sym, ap, _∙_}
 use mathlib.Core.Bool.{true, false}
-use mathlib.Core.List.{List, [], _∷_, _++_}
+use mathlib.Core.List.{List, [], _∷_, _++_, append-assoc}
 use lib.Dec.{eqb}
-use lib.ListN.{take}
-use lib.Seq.{take-nil}
+use lib.ListN.{length, take}
+use lib.Seq.{take-nil, take-at}
 use Rattle.promises.specs.Types.{Call, Line}
 use Rattle.rules.specs.Lists.{those, joined}
 use Rattle.rules.specs.State.{Book, emptyBook}
 use Rattle.rules.specs.Answer.{Outcome}
 use Rattle.rules.specs.Runs.{bookAfter, run}
 use Rattle.rules.specs.Lines.{lineFeed}
-use Rattle.rules.specs.Transcript.{InputLine, lastLine, linesFrom, inputLines, readInput, answerLine}
-use Rattle.runner.specs.Machine.{Machine, start, stopped, fed, feeds, writes}
-use Rattle.runner.proofs.Cuts.{Holds, toCome, by-bytes, feeds-stopped, writes-stopped, none-to-come, one-fewer, line-fed, line-written, byte-fed, byte-written, start-holds}
+use Rattle.rules.specs.Transcript.{InputLine, lastLine, linesFrom, inputLines, readInput, answerLine, transcript}
+use Rattle.runner.specs.Machine.{Machine, start, stopped, fed, feeds, writes, closing}
+use Rattle.runner.proofs.Cuts.{Holds, toCome, by-bytes, feeds-stopped, writes-stopped, none-to-come, one-fewer, line-fed, line-written, byte-fed, byte-written, start-holds, writes-append, machine-transcript}
 use Rattle.promises.specs.Demand1.{outcomes, replyTexts}
-use Rattle.promises.specs.Carried.{callOf, callsOf, callsIn, ended, after}
+use Rattle.promises.specs.Carried.{callOf, callsOf, callsIn, ended, after, Beginning}
 
 -- ---- the calls of lines
 run-append : (b : Book) (cs ds : List Call) → run b (cs ++ ds) ≡ run (run b cs) ds
@@ -104,3 +104,13 @@ unfolding outcomes
 outcomes-after b [] l = unfold callsOf joined run in refl
 outcomes-after b (x ∷ before) l =
     rw (lines-run b x before) (ap (λ (os : List Outcome). answerLine b (readInput x) ∷ os) (outcomes-after (answerLine b (readInput x) .book) before l))
+
+-- ---- what has been written
+-- it stands, whatever bytes come next
+pub written-begins : (input : List ℕ) → Beginning input (writes start input)
+written-begins input more =
+    let before : List ℕ = writes start input in
+    let later : List ℕ = writes (after input) more ++ closing (after (input ++ more)) in
+    let e : transcript (input ++ more) ≡ before ++ later =
+    sym (machine-transcript (input ++ more)) ∙ rw (writes-append start input more) (append-assoc before (writes (after input) more) (closing (after (input ++ more)))) in
+    rw e (take-at before later (length before) refl)

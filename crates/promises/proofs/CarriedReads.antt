@@ -12,7 +12,7 @@ use Rattle.runner.specs.Kept.{Kept, machineIn, onPage, Begins, RunSome, Closed}
 use Rattle.runner.proofs.Cuts.{feeds-append, writes-append, machine-transcript}
 use Rattle.promises.specs.Carried.{after, turned, Chain}
 use Rattle.promises.specs.Promises.{Reached}
-use Rattle.promises.proofs.CarriedBytes.{held-book, held-replies}
+use Rattle.promises.proofs.CarriedBytes.{held-book, held-replies, written-begins}
 
 -- the code begins at the machine's start
 pub begins-start : (k : Kept) → Begins k → machineIn k ≡ start
@@ -84,6 +84,7 @@ reached read given k c =
       machine = a .machine;
       book = ap (λ (m : Machine). m .book) (a .machine) ∙ held-book read;
       replies = a .text ∙ held-replies read;
+      beginning = rw (a .text) (written-begins read);
       ready = a .ready;
       within = a .within;
       closed = closes read given k a;

@@ -1,10 +1,11 @@
 -- Words for what carries the demands to the code: the calls that an input makes, and a chain of reads as the contracts of the book runner's functions have it. What is promised of them stands in Promises.
 use Prim.Native.Nat.{ℕ}
+use mathlib.Core.Path.{_≡_}
 use mathlib.Core.List.{List, [], _∷_, _++_}
-use lib.ListN.{take}
+use lib.ListN.{length, take}
 use Rattle.promises.specs.Types.{Call, Line}
 use Rattle.rules.specs.Lists.{those, joined}
-use Rattle.rules.specs.Transcript.{InputLine, inputLines, readInput}
+use Rattle.rules.specs.Transcript.{InputLine, inputLines, readInput, transcript}
 use Rattle.runner.specs.Machine.{Machine, start, feeds}
 use Rattle.runner.specs.Kept.{Kept, onPage, Begins, RunSome}
 
@@ -30,6 +31,10 @@ ended ls = those (λ l. l .finished) ls
 -- the machine after these bytes, from the start
 abbrev pub after : List ℕ → Machine
 after input = feeds start input
+
+-- the text is a beginning of the transcript of these bytes, whatever bytes come after them
+abbrev pub Beginning : List ℕ → List ℕ → Type 0
+Beginning input text = (more : List ℕ) → take (length text) (transcript (input ++ more)) ≡ text
 
 -- ---- the book runner as code, by its contracts (crate runner, specs/Kept)
 -- the page is given out, and the same page or another is written from its beginning

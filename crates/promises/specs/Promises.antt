@@ -29,7 +29,7 @@ use Rattle.runner.specs.Feeding.{Ready}
 use Rattle.runner.specs.Kept.{Kept, bookIn, machineIn, onPage, Closed}
 use Rattle.promises.specs.Demand1.{possible, isOneOf, applying, outcomes, replyTexts, doneCount, otherCount, answered, lineFeeds, asRead, isEmpty}
 use Rattle.promises.specs.Demand2.{holderBy, nonceOf, queued, sendCalls, waitingIn, noPayment, claims, claimsLot, made, recordOf, paymentBy, traced, coinsIn}
-use Rattle.promises.specs.Carried.{callsOf, callsIn, ended, after, Chain}
+use Rattle.promises.specs.Carried.{callsOf, callsIn, ended, after, Beginning, Chain}
 
 -- ======== Demand 1. "Every call on every book, and every input line up to line 100,000, ends with an answer from a fixed table. A refused call changes nothing. An absent number is refused, never read as nought."
 
@@ -232,7 +232,8 @@ pub record Fed (input : List ℕ) : Type 0 where
   pub demand2 : Demand2 emptyBook (callsIn input)
   -- what it has written is the replies to the lines whose line feed has come, numbered 1, 2, 3, ..
   pub replies : writes start input ≡ replyTexts 1 (outcomes emptyBook (ended (inputLines input)))
-  -- with what it writes at the end of the input, that is the transcript
+  -- that is a beginning of the transcript, whatever comes next; and with what it writes at the end of the input, all of it
+  pub beginning : Beginning input (writes start input)
   pub whole : writes start input ++ closing (after input) ≡ transcript input
 
 -- however the input is cut into reads, what is written for them, joined, is the transcript of all of it
@@ -259,6 +260,8 @@ pub record Reached (read given : List ℕ) (k : Kept) : Type 0 where
   pub book : bookIn k ≡ run emptyBook (callsIn read)
   -- what was given out, and what stands on the page, is the replies to the lines whose line feed has come
   pub replies : given ++ onPage k ≡ replyTexts 1 (outcomes emptyBook (ended (inputLines read)))
+  -- so it is a beginning of the transcript, whatever is read next
+  pub beginning : Beginning read (given ++ onPage k)
   -- what `run_some` requires is so, and what `close` requires but for the room on its page
   pub ready : Ready (k .feeding) (k .hold)
   pub within : k .feeding .at ≤ length (k .out)

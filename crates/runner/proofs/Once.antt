@@ -75,7 +75,7 @@ answer-line-once m l out at r r′ i i′ o o′ h h′ n n′ p p′ e f x y =
     let q = put-once out at (replyText (m .line) (outcomeFor m l)) n n′ p p′ x y in
     (g .0, g .1, g .2, g .3, q .0, q .1)
 
--- ---- feed_byte and run_some: all that is kept, every number of the three tables, every byte of the page, and of the held bytes those that belong to the line. Left open: the bytes of that buffer past them, which nothing reads before it writes them
+-- ---- feed_byte and run_some: all that is kept, every number of the three tables, every byte of the page, and of the held bytes those that belong to the line. Left open: the bytes of that buffer past them, on which no contract depends
 abbrev pub OneFed : Machine → Page → Type 0
 OneFed m left =
     (r r′ : Feeding) (i i′ o o′ h h′ hold hold′ p p′ : List ℕ) → Ready r hold → Ready r′ hold′ → fedMachine r i o h hold ≡ m → fedMachine r′ i′ o′ h′ hold′ ≡ m
