@@ -3,8 +3,9 @@ use Prim.Native.Nat.{ℕ}
 use mathlib.Core.Path.{_≡_}
 use mathlib.Core.List.{List, [], _∷_, _++_}
 use lib.ListN.{length, take}
-use Rattle.promises.specs.Types.{Call, Line}
+use Rattle.promises.specs.Types.{Nonce, Payment, Call, Line}
 use Rattle.rules.specs.Lists.{those, joined}
+use Rattle.rules.specs.State.{Book, view}
 use Rattle.rules.specs.Transcript.{InputLine, inputLines, readInput, transcript}
 use Rattle.runner.specs.Machine.{Machine, start, feeds}
 use Rattle.runner.specs.Kept.{Kept, onPage, Begins, RunSome}
@@ -35,6 +36,10 @@ after input = feeds start input
 -- the text is a beginning of the transcript of these bytes, whatever bytes come after them
 abbrev pub Beginning : List ℕ → List ℕ → Type 0
 Beginning input text = (more : List ℕ) → take (length text) (transcript (input ++ more)) ≡ text
+
+-- what a book shows the outside by itself: the payments in flight, those waiting, and the next nonce
+abbrev pub outboxShown : Book → List Payment × List Payment × Nonce
+outboxShown b = (view b .outside .inflight, view b .outside .waiting, view b .outside .next)
 
 -- ---- the book runner as code, by its contracts (crate runner, specs/Kept)
 -- the page is given out, and the same page or another is written from its beginning

@@ -29,7 +29,7 @@ use Rattle.runner.specs.Feeding.{Ready}
 use Rattle.runner.specs.Kept.{Kept, bookIn, machineIn, onPage, Closed}
 use Rattle.promises.specs.Demand1.{possible, isOneOf, applying, outcomes, replyTexts, doneCount, otherCount, answered, lineFeeds, asRead, isEmpty}
 use Rattle.promises.specs.Demand2.{holderBy, nonceOf, queued, sendCalls, waitingIn, noPayment, claims, claimsLot, made, recordOf, paymentBy, traced, coinsIn}
-use Rattle.promises.specs.Carried.{callsOf, callsIn, ended, after, Beginning, Chain}
+use Rattle.promises.specs.Carried.{callsOf, callsIn, ended, after, Beginning, outboxShown, Chain}
 
 -- ======== Demand 1. "Every call on every book, and every input line up to line 100,000, ends with an answer from a fixed table. A refused call changes nothing. An absent number is refused, never read as nought."
 
@@ -247,6 +247,8 @@ EachAnswered = (before : List InputLine) (l : InputLine) → outcomes emptyBook 
 -- demand 3 of the machine, after any two inputs: of their calls, and of the books that it holds
 pub record Alike (input input′ : List ℕ) : Type 0 where
   pub outside : seenOutside emptyBook (callsIn input) ≡ seenOutside emptyBook (callsIn input′) → outsideView emptyBook (callsIn input) ≡ outsideView emptyBook (callsIn input′)
+  -- among it what the two books show: the payments in flight, those waiting, and the next nonce
+  pub outbox : seenOutside emptyBook (callsIn input) ≡ seenOutside emptyBook (callsIn input′) → outboxShown (after input .book) ≡ outboxShown (after input′ .book)
   pub member : (m : ℕ) → seenBy m emptyBook (callsIn input) ≡ seenBy m emptyBook (callsIn input′) → shownTo m (view (after input .book)) ≡ shownTo m (view (after input′ .book))
   pub next : (m : ℕ) → seenBy m emptyBook (callsIn input) ≡ seenBy m emptyBook (callsIn input′)
       → (c : Call) → asks m c ≡ true → hasRoom (view (after input .book)) ≡ true → hasRoom (view (after input′ .book)) ≡ true
