@@ -72,7 +72,7 @@ along (Chain.reads {read = read} {given = given} {before = before} {left = left}
 along (Chain.gives {read = read} {given = given} {k = k} out c) = along-gives read given k out (along c)
 
 -- at the end of the input
-closes : (read given : List ℕ) (k : Kept) → Along read given k → (out : List ℕ) (at : ℕ) → Closed k out at → given ++ take at out ≡ transcript read
+closes : (read given : List ℕ) (k : Kept) → Along read given k → (out : List ℕ) (at : ℕ) → Closed (k .feeding) (k .hold) (k .out) out at → given ++ take at out ≡ transcript read
 unfolding EndsWith
 closes read given k a out at c =
     rw (c .text (k .inbox) (k .outbox) (k .history), ← append-assoc given (onPage k) (closing (machineIn k)), a .text, a .machine) (machine-transcript read)

@@ -268,7 +268,7 @@ pub record Reached (read given : List ℕ) (k : Kept) : Type 0 where
   pub ready : Ready (k .feeding) (k .hold)
   pub within : k .feeding .at ≤ length (k .out)
   -- after `close`, all that was given out, and what stands on the page that it leaves, is the transcript
-  pub closed : (out : List ℕ) (at : ℕ) → Closed k out at → given ++ take at out ≡ transcript read
+  pub closed : (out : List ℕ) (at : ℕ) → Closed (k .feeding) (k .hold) (k .out) out at → given ++ take at out ≡ transcript read
 
 pub record TheCode : Type 0 where
   pub fed : (input : List ℕ) → Fed input

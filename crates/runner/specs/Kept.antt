@@ -1,4 +1,4 @@
--- What the program keeps from one call of the code to the next, and what the contracts of `start`, `run_some` and `close` say of it.
+-- What the program keeps from one call of the code to the next, and the contracts of `start`, `run_some` and `close`.
 use Prim.Native.Nat.{ℕ, _≤_}
 use mathlib.Core.Path.{_≡_}
 use mathlib.Core.List.{List, _++_}
@@ -22,6 +22,9 @@ pub record Kept : Type 0 where
   pub hold : List ℕ
   pub out : List ℕ
 
+abbrev pub kept : Feeding → List ℕ → List ℕ → List ℕ → List ℕ → List ℕ → Kept
+kept f inbox outbox history hold out = record { feeding = f; inbox = inbox; outbox = outbox; history = history; hold = hold; out = out }
+
 -- the book that lies in the desk and the tables, and the machine that all of it stands for
 abbrev pub bookIn : Kept → Book
 bookIn k = bookOf (k .feeding .running .desk) (k .inbox) (k .outbox) (k .history)
@@ -36,7 +39,7 @@ pageIn k = Writing.page (k .out) (k .feeding .at)
 abbrev pub onPage : Kept → List ℕ
 onPage k = take (k .feeding .at) (k .out)
 
--- the beginning: what the contract of `start` says of what it hands back; tables of zeros, a buffer of 121 bytes, and any page
+-- the beginning: what `start` hands back, by its contract; tables of zeros, a buffer of 121 bytes, and any page
 pub record Begins (k : Kept) : Type 0 where
   pub begun : Begun (k .feeding)
   pub inbox : k .inbox ≡ blank depositShape inboxRows
@@ -44,7 +47,7 @@ pub record Begins (k : Kept) : Type 0 where
   pub history : k .history ≡ blank recordShape historyRows
   pub size : length (k .hold) ≡ 121
 
--- one call of `run_some` with some bytes, of which it took the first `next`: what its contract says of all that it was lent and handed back, one field for each `ensures`, and nothing else
+-- one call of `run_some` with some bytes, of which it took the first `next`: its contract, of all that it was lent and handed back
 pub record RunSome (before : Kept) (chunk : List ℕ) (next : ℕ) (left : Kept) : Type 0 where
   pub machine : machineIn left ≡ feeds (machineIn before) (take next chunk)
   pub page : pageIn left ≡ put (pageIn before) (writes (machineIn before) (take next chunk))
@@ -53,8 +56,8 @@ pub record RunSome (before : Kept) (chunk : List ℕ) (next : ℕ) (left : Kept)
   pub within : left .feeding .at ≤ length (left .out)
   pub moves : Moves (before .feeding) (before .out) (record { feeding = left .feeding; next = next }) chunk
 
--- the call of `close`, which leaves this page, written up to this place: the same of its contract
-pub record Closed (k : Kept) (out : List ℕ) (at : ℕ) : Type 0 where
-  pub page : Closes (k .feeding) (k .hold) (pageIn k) (Writing.page out at)
-  pub text : EndsWith (k .feeding) (k .hold) (onPage k) (take at out)
-  pub within : at ≤ length out
+-- the call of `close`, which leaves this page, written up to this place: its contract
+pub record Closed (f : Feeding) (hold out left : List ℕ) (at : ℕ) : Type 0 where
+  pub page : Closes f hold (Writing.page out (f .at)) (Writing.page left at)
+  pub text : EndsWith f hold (take (f .at) out) (take at left)
+  pub within : at ≤ length left
