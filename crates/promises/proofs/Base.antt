@@ -5,7 +5,7 @@ use mathlib.Core.Logic.{_≢_}
 use mathlib.Core.List.{List, [], _∷_, _++_, append-assoc, append-nil}
 use Rattle.promises.specs.Types.{Desk, Call}
 use Rattle.rules.specs.Tables.{rowsOf}
-use Rattle.rules.specs.State.{Book, view, deskOf, laid, emptyState, Empty}
+use Rattle.rules.specs.State.{Book, view, deskOf, laid, emptyState, emptyBook, Empty}
 use Rattle.rules.specs.Replies.{Reply, told, if-done}
 use Rattle.rules.specs.Effects.{effect}
 use Rattle.rules.specs.Answer.{replyNumber, doneAnswer, piecesOf, bookOf, answer}
@@ -28,6 +28,11 @@ refused-leaves b c h =
 pub view-empty : (b : Book) → Empty b → view b ≡ emptyState
 unfolding view deskOf emptyState rowsOf
 view-empty b e = ap (λ (d : Desk). view (bookOf d (b .inbox) (b .outbox) (b .history))) (e .desk)
+
+-- the one that the book runner starts from is empty
+pub blank-empty : Empty emptyBook
+unfolding emptyBook
+blank-empty = record { desk = refl; inbox = refl; outbox = refl; history = refl }
 
 -- ---- the induction over runs
 module _ {A B : Type 0} (f : Book → Call → List A) (g : Book → Call → List B) (P : List A → List B → Book → Type 0)

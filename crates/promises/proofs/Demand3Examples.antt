@@ -10,12 +10,12 @@ use Rattle.rules.specs.Answer.{answer}
 use Rattle.rules.specs.Runs.{run}
 use Rattle.rules.specs.Views.{outsideOf, seenOutside, outsideView, namesMember, seenBy, shownTo, memberView, asks, hasRoom}
 use Rattle.rules.proofs.Compute.{compute}
+use Rattle.promises.proofs.Base.{blank-empty}
 use Rattle.promises.specs.Demand3Examples.{writtenOn, onePays, twoPay, bothSeen, bothShow, anotherPays, anotherGrants, bothSeenBy, bothShowMember, asked, bothReply}
 
 -- both books are empty
 pub empty-blank : Empty emptyBook
-unfolding compute
-empty-blank = record { desk = refl; inbox = refl; outbox = refl; history = refl }
+empty-blank = blank-empty
 
 pub empty-written : Empty writtenOn
 unfolding writtenOn

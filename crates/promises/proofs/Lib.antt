@@ -1,4 +1,4 @@
--- The proofs of the promises: demand 1, demand 2, demand 3, and all of them; then the examples.
+-- The proofs of the promises: demand 1, demand 2, demand 3, what carries them to the code, and all of them; then the examples.
 pub mod Base
 pub mod Smallest
 pub mod Replies
@@ -40,6 +40,10 @@ pub mod MemberDomains
 pub mod MemberStatement
 pub mod MemberReplies
 pub mod Demand3
+pub mod CarriedBytes
+pub mod CarriedReads
+pub mod TheCode
 pub mod Promises
 pub mod Demand3Examples
 pub mod Examples
+pub mod CarriedExamples

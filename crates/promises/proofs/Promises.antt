@@ -3,6 +3,7 @@ use Rattle.promises.specs.Promises.{Promises}
 use Rattle.promises.proofs.Demand1.{demand1}
 use Rattle.promises.proofs.Demand2.{demand2}
 use Rattle.promises.proofs.Demand3.{demand3}
+use Rattle.promises.proofs.TheCode.{the-code}
 
 pub promises : Promises
-promises = record { demand1 = demand1; demand2 = demand2; demand3 = demand3 }
+promises = record { demand1 = demand1; demand2 = demand2; demand3 = demand3; theCode = the-code }

@@ -1,4 +1,4 @@
--- What is promised, in the order of the demands, from top to bottom. Each promise is said in words and then exactly; the words that it cites are those of the rules (crate rules), of traces (crate lots), and of Demand1 and Demand2 beside this page.
+-- What is promised, in the order of the demands, from top to bottom. Each promise is said in words and then exactly; the words that it cites are those of the rules (crate rules), of traces (crate lots), and of Demand1, Demand2 and Carried beside this page.
 use Prim.Native.Nat.{ℕ, _+_, _/_, _≤_, _<_}
 use mathlib.Core.Path.{_≡_}
 use mathlib.Core.Logic.{_≢_, _↔_}
@@ -11,7 +11,7 @@ use Rattle.rules.proofs.Facts.{Accepted, Within, Fit}
 use Rattle.rules.specs.Limits.{memberCount, assetCount, domainCount, historyRows, highestField, mostLines}
 use Rattle.rules.specs.Lists.{all, any, joined}
 use Rattle.rules.specs.Tables.{rowsOf, lotShape}
-use Rattle.rules.specs.State.{Book, Empty, view, historyOf}
+use Rattle.rules.specs.State.{Book, Empty, view, historyOf, emptyBook}
 use Rattle.rules.specs.Replies.{told, plain}
 use Rattle.rules.specs.Effects.{effect, balance, holder, total, oldest, recordsOf}
 use Rattle.rules.specs.Frame.{inFrame}
@@ -20,12 +20,16 @@ use Rattle.rules.specs.Lots.{inLine}
 use Rattle.rules.specs.Answer.{Outcome, answer, traceAnswer, provenanceAnswer}
 use Rattle.rules.specs.Runs.{run, accepted, deposits, sends, settlements, sentAfter}
 use Rattle.rules.specs.Sheet.{upFrom, acceptedDeposits, settledSum, unclaimedSum, balancesSum, outboxSum, BalanceSheet, chainTotal}
-use Rattle.rules.specs.Views.{seenOutside, outsideView, seenBy, memberView, asks, hasRoom}
+use Rattle.rules.specs.Views.{seenOutside, outsideView, seenBy, shownTo, memberView, asks, hasRoom}
 use Rattle.rules.specs.Lines.{tab, fields, Numbers, numbers, readLine, numbersOf, writeLine}
 use Rattle.rules.specs.Transcript.{InputLine, linesFrom, inputLines, readInput, answerLine, replyText, endText, transcript}
 use Rattle.lots.specs.Traces.{worth, isPositive, coins, beforePayment}
-use Rattle.promises.specs.Demand1.{possible, isOneOf, applying, replyTexts, doneCount, otherCount, answered, lineFeeds, asRead, isEmpty}
+use Rattle.runner.specs.Machine.{start, writes, closing, writesAll}
+use Rattle.runner.specs.Feeding.{Ready}
+use Rattle.runner.specs.Kept.{Kept, bookIn, machineIn, onPage, Closed}
+use Rattle.promises.specs.Demand1.{possible, isOneOf, applying, outcomes, replyTexts, doneCount, otherCount, answered, lineFeeds, asRead, isEmpty}
 use Rattle.promises.specs.Demand2.{holderBy, nonceOf, queued, sendCalls, waitingIn, noPayment, claims, claimsLot, made, recordOf, paymentBy, traced, coinsIn}
+use Rattle.promises.specs.Carried.{callsOf, callsIn, ended, after, Beginning, outboxShown, Chain}
 
 -- ======== Demand 1. "Every call on every book, and every input line up to line 100,000, ends with an answer from a fixed table. A refused call changes nothing. An absent number is refused, never read as nought."
 
@@ -218,8 +222,64 @@ pub record Demand3 : Type 0 where
   -- and go on to do so
   pub next : MemberAnswered
 
+-- ======== What the code does is this. The contracts of the book runner's functions are said over a machine that is fed one byte at a time, from an empty book on (crate runner, specs/Machine). What the machine holds and writes is what the rules give, at every byte; and a chain of reads that meets the contracts is at every point that machine.
+
+-- the machine after any bytes
+pub record Fed (input : List ℕ) : Type 0 where
+  -- the book that it holds is the one that the calls in these bytes lead to
+  pub book : after input .book ≡ run emptyBook (callsIn input)
+  -- so all of demand 2 holds of it
+  pub demand2 : Demand2 emptyBook (callsIn input)
+  -- what it has written is the replies to the lines whose line feed has come, numbered 1, 2, 3, ..
+  pub replies : writes start input ≡ replyTexts 1 (outcomes emptyBook (ended (inputLines input)))
+  -- that is a beginning of the transcript, whatever comes next; and with what it writes at the end of the input, all of it
+  pub beginning : Beginning input (writes start input)
+  pub whole : writes start input ++ closing (after input) ≡ transcript input
+
+-- however the input is cut into reads, what is written for them, joined, is the transcript of all of it
+abbrev pub HoweverCut : Type 0
+HoweverCut = (reads : List (List ℕ)) → writesAll start reads ≡ transcript (joined (λ r. r) reads)
+
+-- each line is answered from the book that the calls of the lines before it lead to
+abbrev pub EachAnswered : Type 0
+EachAnswered = (before : List InputLine) (l : InputLine) → outcomes emptyBook (before ++ (l ∷ [])) ≡ outcomes emptyBook before ++ (answerLine (run emptyBook (callsOf before)) (readInput l) ∷ [])
+
+-- demand 3 of the machine, after any two inputs: of their calls, and of the books that it holds
+pub record Alike (input input′ : List ℕ) : Type 0 where
+  pub outside : seenOutside emptyBook (callsIn input) ≡ seenOutside emptyBook (callsIn input′) → outsideView emptyBook (callsIn input) ≡ outsideView emptyBook (callsIn input′)
+  -- among it what the two books show: the payments in flight, those waiting, and the next nonce
+  pub outbox : seenOutside emptyBook (callsIn input) ≡ seenOutside emptyBook (callsIn input′) → outboxShown (after input .book) ≡ outboxShown (after input′ .book)
+  pub member : (m : ℕ) → seenBy m emptyBook (callsIn input) ≡ seenBy m emptyBook (callsIn input′) → shownTo m (view (after input .book)) ≡ shownTo m (view (after input′ .book))
+  pub next : (m : ℕ) → seenBy m emptyBook (callsIn input) ≡ seenBy m emptyBook (callsIn input′)
+      → (c : Call) → asks m c ≡ true → hasRoom (view (after input .book)) ≡ true → hasRoom (view (after input′ .book)) ≡ true
+      → answer (after input .book) c .reply ≡ answer (after input′ .book) c .reply
+
+-- the code, after any chain of reads that meets its contracts
+pub record Reached (read given : List ℕ) (k : Kept) : Type 0 where
+  -- desk, tables, tally, line number and held bytes are those of the machine after the bytes that were read
+  pub machine : machineIn k ≡ after read
+  -- so the book in the desk and the tables is the one that the calls in these bytes lead to
+  pub book : bookIn k ≡ run emptyBook (callsIn read)
+  -- what was given out, and what stands on the page, is the replies to the lines whose line feed has come
+  pub replies : given ++ onPage k ≡ replyTexts 1 (outcomes emptyBook (ended (inputLines read)))
+  -- so it is a beginning of the transcript, whatever is read next
+  pub beginning : Beginning read (given ++ onPage k)
+  -- what `run_some` requires is so, and what `close` requires but for the room on its page
+  pub ready : Ready (k .feeding) (k .hold)
+  pub within : k .feeding .at ≤ length (k .out)
+  -- after `close`, all that was given out, and what stands on the page that it leaves, is the transcript
+  pub closed : (out : List ℕ) (at : ℕ) → Closed (k .feeding) (k .hold) (k .out) out at → given ++ take at out ≡ transcript read
+
+pub record TheCode : Type 0 where
+  pub fed : (input : List ℕ) → Fed input
+  pub cut : HoweverCut
+  pub each : EachAnswered
+  pub alike : (input input′ : List ℕ) → Alike input input′
+  pub chain : (read given : List ℕ) (k : Kept) → Chain read given k → Reached read given k
+
 -- ======== the whole
 pub record Promises : Type 0 where
   pub demand1 : Demand1
   pub demand2 : (b : Book) (cs : List Call) → Empty b → Demand2 b cs
   pub demand3 : Demand3
+  pub theCode : TheCode

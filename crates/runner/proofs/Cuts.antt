@@ -16,7 +16,7 @@ use Rattle.rules.specs.Lists.{joined}
 use Rattle.rules.specs.State.{Book}
 use Rattle.rules.specs.Lines.{lineFeed, readFields, readLine}
 use Rattle.rules.specs.Transcript.{InputLine, lastLine, linesFrom, inputLines, readInput, answerLine, replyText, tallied, endText, played, transcript}
-use Rattle.runner.specs.Machine.{Machine, start, stopped, held-with, outcomeFor, answered, holding, fed, written, feeds, writes, unfinished, unfinishedText, ended, closing}
+use Rattle.runner.specs.Machine.{Machine, start, stopped, held-with, outcomeFor, answered, holding, fed, written, feeds, writes, unfinished, unfinishedText, ended, closing, writesAll}
 
 -- ---- feeding in parts
 pub feeds-append : (m : Machine) (xs ys : List ℕ) → feeds m (xs ++ ys) ≡ feeds (feeds m xs) ys
@@ -61,20 +61,52 @@ held-reads before = go (ltb (length before) 121) refl
         let l : length (heldOf before) ≡ 121 = length-take-le 121 before h in
         rw (lt-leb (length (heldOf before)) 120 (omega arith), lt-leb (length before) 120 (omega arith))
 
--- ---- the rest of a run
 -- the lines that are still to be answered
-abbrev toCome : ℕ → ℕ
+abbrev pub toCome : ℕ → ℕ
 toCome n = suc mostLines - n
-
--- what is written for the lines that a machine has before it
-abbrev rest : Machine → List ℕ → List ℕ → List ℕ
-rest m before input = played (m .line) (m .book) (m .tally) (take (toCome (m .line)) (linesFrom before input))
 
 -- the machine holds what came of its line
 pub record Holds (m : Machine) (before : List ℕ) : Type 0 where
   pub held : m .held ≡ heldOf before
 
--- stopped: nothing more is written but the end
+-- what is held after a byte
+fed-feed : (m : Machine) → stopped m ≡ false → Holds (fed m lineFeed) []
+unfolding fed
+fed-feed m s = record { held = rw s }
+
+fed-byte : (m : Machine) (before : List ℕ) → Holds m before → stopped m ≡ false → (b : ℕ) → eqb b lineFeed ≡ false → Holds (fed m b) (before ++ (b ∷ []))
+unfolding fed
+fed-byte m before h s b e = record { held = rw (s, e, h .held) (held-more before b) }
+
+-- ---- the induction over bytes
+-- what holds of every stopped machine, at the end of the input, and at a line feed and any other byte where it holds of the bytes after it, holds of every machine and every input
+module _ (P : Machine → List ℕ → List ℕ → Type 0) (stop : (m : Machine) (before input : List ℕ) → stopped m ≡ true → P m before input)
+    (end : (m : Machine) (before : List ℕ) → Holds m before → stopped m ≡ false → P m before [])
+    (line : (m : Machine) (before bs : List ℕ) → Holds m before → stopped m ≡ false → P (fed m lineFeed) [] bs → P m before (lineFeed ∷ bs))
+    (byte : (m : Machine) (before : List ℕ) (b : ℕ) (bs : List ℕ) → Holds m before → stopped m ≡ false → eqb b lineFeed ≡ false → P (fed m b) (before ++ (b ∷ [])) bs → P m before (b ∷ bs)) where
+  pub by-bytes : (m : Machine) (before input : List ℕ) → Holds m before → P m before input
+  by-bytes m before [] h = go (stopped m) refl
+    where
+      go : (t : Bool) → stopped m ≡ t → P m before []
+      go true s = stop m before [] s
+      go false s = end m before h s
+  by-bytes m before (b ∷ bs) h = go (stopped m) refl (by-bytes (fed m b) (before ++ (b ∷ [])) bs) (by-bytes (fed m b) [] bs)
+    where
+      Rest : List ℕ → Type 0
+      Rest next = Holds (fed m b) next → P (fed m b) next bs
+
+      going-on : stopped m ≡ false → (t : Bool) → eqb b lineFeed ≡ t → Rest (before ++ (b ∷ [])) → Rest [] → P m before (b ∷ bs)
+      going-on s true e more fresh =
+          let q : b ≡ lineFeed = eqb-true b lineFeed e in
+          let f : Holds (fed m b) [] = rw q (fed-feed m s) in
+          rw q (line m before bs h s (rw q at (fresh f)))
+      going-on s false e more fresh = byte m before b bs h s e (more (fed-byte m before h s b e))
+
+      go : (t : Bool) → stopped m ≡ t → Rest (before ++ (b ∷ [])) → Rest [] → P m before (b ∷ bs)
+      go true s more fresh = stop m before (b ∷ bs) s
+      go false s more fresh = going-on s (eqb b lineFeed) refl more fresh
+
+-- ---- stopped: nothing more changes, and nothing more is written but the end
 fed-stopped : (m : Machine) (b : ℕ) → stopped m ≡ true → fed m b ≡ m
 unfolding fed
 fed-stopped m b s = rw s
@@ -87,92 +119,89 @@ closing-stopped : (m : Machine) → stopped m ≡ true → closing m ≡ endText
 unfolding closing ended
 closing-stopped m s = rw s
 
-stopped-writes : (m : Machine) → stopped m ≡ true → (input : List ℕ) → writes m input ++ closing (feeds m input) ≡ endText (m .tally)
-unfolding writes feeds
-stopped-writes m s [] = closing-stopped m s
-stopped-writes m s (b ∷ bs) = rw (written-stopped m b s, fed-stopped m b s) (stopped-writes m s bs)
+pub feeds-stopped : (m : Machine) → stopped m ≡ true → (input : List ℕ) → feeds m input ≡ m
+unfolding feeds
+feeds-stopped m s [] = refl
+feeds-stopped m s (b ∷ bs) = rw (fed-stopped m b s) (feeds-stopped m s bs)
 
-stopped-rest : (m : Machine) (before input : List ℕ) → stopped m ≡ true → rest m before input ≡ endText (m .tally)
-unfolding played
-stopped-rest m before input s =
+pub writes-stopped : (m : Machine) → stopped m ≡ true → (input : List ℕ) → writes m input ≡ []
+unfolding writes
+writes-stopped m s [] = refl
+writes-stopped m s (b ∷ bs) = rw (written-stopped m b s, fed-stopped m b s) (writes-stopped m s bs)
+
+-- and no line is still to be answered; where it is not stopped, one fewer after each line
+pub none-to-come : (m : Machine) → stopped m ≡ true → toCome (m .line) ≡ 0
+none-to-come m s =
     let h : mostLines < m .line = ltb-true mostLines (m .line) s in
-    let e : toCome (m .line) ≡ 0 = omega arith in
-    rw e
+    omega arith
 
--- not stopped: one line fewer to come
-one-fewer : (n : ℕ) → n ≤ mostLines → toCome n ≡ suc (toCome (n + 1))
-one-fewer n h = omega arith
+pub one-fewer : (m : Machine) → stopped m ≡ false → toCome (m .line) ≡ suc (toCome (m .line + 1))
+one-fewer m s =
+    let h : m .line ≤ mostLines = ltb-false mostLines (m .line) s in
+    omega arith
 
--- at the end of the input
-going-end : (m : Machine) (before : List ℕ) → Holds m before → stopped m ≡ false → closing m ≡ rest m before []
-unfolding closing ended linesFrom lastLine
-going-end m before h s = rw (s, one-fewer (m .line) (ltb-false mostLines (m .line) s)) (go before (m .held) (h .held))
+-- ---- what a line feed and any other byte change
+pub line-fed : (m : Machine) (before : List ℕ) → Holds m before → stopped m ≡ false → fed m lineFeed ≡ answered m (outcomeFor m (readLine before))
+unfolding fed
+line-fed m before h s = rw (s, h .held, held-reads before)
+
+pub line-written : (m : Machine) (before : List ℕ) → Holds m before → stopped m ≡ false → written m lineFeed ≡ replyText (m .line) (outcomeFor m (readLine before))
+unfolding written
+line-written m before h s = rw (s, h .held, held-reads before)
+
+pub byte-fed : (m : Machine) (b : ℕ) → stopped m ≡ false → eqb b lineFeed ≡ false → fed m b ≡ holding m (held-with (m .held) b)
+unfolding fed
+byte-fed m b s e = rw (s, e)
+
+pub byte-written : (m : Machine) (b : ℕ) → stopped m ≡ false → eqb b lineFeed ≡ false → written m b ≡ []
+unfolding written
+byte-written m b s e = rw (s, e)
+
+-- ---- what is written for the lines that a machine has before it
+abbrev rest : Machine → List ℕ → List ℕ → List ℕ
+rest m before input = played (m .line) (m .book) (m .tally) (take (toCome (m .line)) (linesFrom before input))
+
+abbrev Ends : Machine → List ℕ → List ℕ → Type 0
+Ends m before input = writes m input ++ closing (feeds m input) ≡ rest m before input
+
+ends-stopped : (m : Machine) (before input : List ℕ) → stopped m ≡ true → Ends m before input
+unfolding played
+ends-stopped m before input s = rw (writes-stopped m s input, feeds-stopped m s input, none-to-come m s) (closing-stopped m s)
+
+ends-end : (m : Machine) (before : List ℕ) → Holds m before → stopped m ≡ false → Ends m before []
+unfolding writes feeds closing ended linesFrom lastLine
+ends-end m before h s = rw (s, one-fewer m s) (go before (m .held) (h .held))
   where
     go : (before held : List ℕ) → held ≡ heldOf before
         → unfinishedText held m ++ endText (unfinished held m .tally) ≡ played (m .line) (m .book) (m .tally) (take (suc (toCome (m .line + 1))) (lastLine before))
     go [] held e = rw e (unfold unfinishedText unfinished lastLine played in refl)
     go (b ∷ bs) held e = rw e (unfold unfinishedText unfinished lastLine played readInput in rw (take-nil {A = InputLine} (toCome (m .line + 1))))
 
--- a line feed: the line is answered; any other byte is held
-going-feed : (m : Machine) (before : List ℕ) → Holds m before → stopped m ≡ false → (bs : List ℕ)
-    → rest m before (lineFeed ∷ bs) ≡ written m lineFeed ++ rest (fed m lineFeed) [] bs
-unfolding linesFrom played written fed readInput
-going-feed m before h s bs =
-    rw (s, one-fewer (m .line) (ltb-false mostLines (m .line) s), h .held, held-reads before)
+ends-line : (m : Machine) (before bs : List ℕ) → Holds m before → stopped m ≡ false → Ends (fed m lineFeed) [] bs → Ends m before (lineFeed ∷ bs)
+unfolding writes feeds linesFrom played readInput
+ends-line m before bs h s ih =
+    append-assoc (written m lineFeed) (writes (fed m lineFeed) bs) (closing (feeds (fed m lineFeed) bs))
+    ∙ ap (λ (x : List ℕ). written m lineFeed ++ x) ih
+    ∙ rw (line-written m before h s, line-fed m before h s, one-fewer m s)
 
-going-byte : (m : Machine) (before : List ℕ) → Holds m before → stopped m ≡ false → (b : ℕ) → eqb b lineFeed ≡ false → (bs : List ℕ)
-    → rest m before (b ∷ bs) ≡ written m b ++ rest (fed m b) (before ++ (b ∷ [])) bs
-unfolding linesFrom written fed
-going-byte m before h s b e bs = rw (s, e)
-
--- what is held after a byte
-fed-feed : (m : Machine) → stopped m ≡ false → Holds (fed m lineFeed) []
-unfolding fed
-fed-feed m s = record { held = rw s }
-
-fed-byte : (m : Machine) (before : List ℕ) → Holds m before → stopped m ≡ false → (b : ℕ) → eqb b lineFeed ≡ false → Holds (fed m b) (before ++ (b ∷ []))
-unfolding fed
-fed-byte m before h s b e = record { held = rw (s, e, h .held) (held-more before b) }
+ends-byte : (m : Machine) (before : List ℕ) (b : ℕ) (bs : List ℕ) → Holds m before → stopped m ≡ false → eqb b lineFeed ≡ false → Ends (fed m b) (before ++ (b ∷ [])) bs → Ends m before (b ∷ bs)
+unfolding writes feeds linesFrom
+ends-byte m before b bs h s e ih = rw (byte-written m b s e, e) (ih ∙ rw (byte-fed m b s e))
 
 -- from any machine on: what it writes for an input, and at its end, is what the lines before it are answered
 pub going : (m : Machine) (before input : List ℕ) → Holds m before → writes m input ++ closing (feeds m input) ≡ rest m before input
-unfolding writes feeds
-going m before [] h = go (stopped m) refl
-  where
-    go : (t : Bool) → stopped m ≡ t → closing m ≡ rest m before []
-    go true s = closing-stopped m s ∙ sym (stopped-rest m before [] s)
-    go false s = going-end m before h s
-going m before (b ∷ bs) h = go (stopped m) refl (λ f. going (fed m b) (before ++ (b ∷ [])) bs f) (λ f. going (fed m b) [] bs f)
-  where
-    Ends : List ℕ → Type 0
-    Ends next = Holds (fed m b) next → writes (fed m b) bs ++ closing (feeds (fed m b) bs) ≡ rest (fed m b) next bs
-
-    byte : stopped m ≡ false → (t : Bool) → eqb b lineFeed ≡ t → Ends (before ++ (b ∷ [])) → Ends [] → written m b ++ writes (fed m b) bs ++ closing (feeds (fed m b) bs) ≡ rest m before (b ∷ bs)
-    byte s true e more fresh =
-        let q : b ≡ lineFeed = eqb-true b lineFeed e in
-        let f : Holds (fed m b) [] = rw q (fed-feed m s) in
-        append-assoc (written m b) (writes (fed m b) bs) (closing (feeds (fed m b) bs))
-        ∙ ap (λ (x : List ℕ). written m b ++ x) (fresh f)
-        ∙ rw q (sym (going-feed m before h s bs))
-    byte s false e more fresh =
-        append-assoc (written m b) (writes (fed m b) bs) (closing (feeds (fed m b) bs))
-        ∙ ap (λ (x : List ℕ). written m b ++ x) (more (fed-byte m before h s b e))
-        ∙ sym (going-byte m before h s b e bs)
-
-    go : (t : Bool) → stopped m ≡ t → Ends (before ++ (b ∷ [])) → Ends [] → written m b ++ writes (fed m b) bs ++ closing (feeds (fed m b) bs) ≡ rest m before (b ∷ bs)
-    go true s more fresh = stopped-writes m s (b ∷ bs) ∙ sym (stopped-rest m before (b ∷ bs) s)
-    go false s more fresh = byte s (eqb b lineFeed) refl more fresh
+going = by-bytes Ends ends-stopped ends-end ends-line ends-byte
 
 -- ---- the whole
+pub start-holds : Holds start []
+unfolding start
+start-holds = record { held = refl }
+
 pub machine-transcript : (input : List ℕ) → writes start input ++ closing (feeds start input) ≡ transcript input
 unfolding start transcript inputLines
-machine-transcript input = going start [] input (record { held = refl })
+machine-transcript input = going start [] input start-holds
 
 -- for every way to cut the input into reads
-unfoldable pub writesAll : Machine → List (List ℕ) → List ℕ
-writesAll m [] = closing m
-writesAll m (r ∷ rs) = writes m r ++ writesAll (feeds m r) rs
-
 cut-from : (m : Machine) (reads : List (List ℕ)) → writesAll m reads ≡ writes m (joined (λ r. r) reads) ++ closing (feeds m (joined (λ r. r) reads))
 unfolding writesAll joined writes feeds
 cut-from m [] = refl

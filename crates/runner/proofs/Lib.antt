@@ -1,6 +1,7 @@
 pub mod Closing
 pub mod Cuts
 pub mod Feeds
+pub mod Once
 pub mod Pages
 pub mod Parts
 pub mod Room

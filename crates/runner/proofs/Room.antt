@@ -26,6 +26,9 @@ use Rattle.rules.specs.declared.answers.Tally.{Tally}
 use Rattle.rules.specs.Transcript.{pieceValues, replyText, answerLine, endText}
 use Rattle.runner.specs.Machine.{Machine, stopped, outcomeFor, written, unfinishedText, ended, closing}
 use Rattle.lines.specs.Writing.{Page, page, putByte, put}
+use Rattle.runner.specs.declared.feed.Feeding.{Feeding}
+use Rattle.runner.specs.Feeding.{fedMachine, Closes, EndsWith}
+use Rattle.runner.specs.Kept.{Closed}
 
 -- a number has at most 20 digits
 one-more : (t : Bool) (k a b : ℕ) (ds : List ℕ) → length ds ≤ k → length (cond t (a ∷ []) (ds ++ (b ∷ []))) ≤ suc k
@@ -194,9 +197,9 @@ fits-more m b o o₀ at at₀ text e h r =
     omega (arith, x, u, z, w, l, q, h)
 
 -- at the end of the input there is room for what comes last, whatever the tables hold
-pub closed-all : (o o₀ : List ℕ) (at at₀ : ℕ) (m : List ℕ → List ℕ → List ℕ → Machine) → ((x y z : List ℕ) → page o at ≡ put (page o₀ at₀) (closing (m x y z))) → at₀ + 45000 ≤ length o₀
-    → ((x y z : List ℕ) → page o at ≡ put (page o₀ at₀) (closing (m x y z))) × (((x y z : List ℕ) → take at o ≡ take at₀ o₀ ++ closing (m x y z)) × (at ≤ length o))
-closed-all o o₀ at at₀ m e h = (e, (λ x y z. one x y z .0, one [] [] [] .1))
+pub closed-all : (f : Feeding) (hold o₀ o : List ℕ) (at : ℕ) → Closes f hold (page o₀ (f .at)) (page o at) → f .at + 45000 ≤ length o₀ → Closed f hold o₀ o at
+unfolding Closes EndsWith
+closed-all f hold o₀ o at e h = record { page = e; text = λ x y z. one x y z .0; within = one [] [] [] .1 }
   where
-    one : (x y z : List ℕ) → (take at o ≡ take at₀ o₀ ++ closing (m x y z)) × (at ≤ length o)
-    one x y z = whole o o₀ at at₀ (closing (m x y z)) (e x y z) (let c = closing-fits (m x y z) in omega arith)
+    one : (x y z : List ℕ) → (take at o ≡ take (f .at) o₀ ++ closing (fedMachine f x y z hold)) × (at ≤ length o)
+    one x y z = whole o o₀ at (f .at) (closing (fedMachine f x y z hold)) (e x y z) (let c = closing-fits (fedMachine f x y z hold) in omega arith)

@@ -1,4 +1,5 @@
 pub mod Feeding
+pub mod Kept
 pub mod Machine
 pub mod Running
 pub mod Step

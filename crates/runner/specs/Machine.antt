@@ -76,3 +76,8 @@ ended m = cond (stopped m) m (unfinished (m .held) m)
 
 unfoldable pub closing : Machine → List ℕ
 closing m = cond (stopped m) [] (unfinishedText (m .held) m) ++ endText (ended m .tally)
+
+-- all that is written for an input that comes in these reads, and at its end
+unfoldable pub writesAll : Machine → List (List ℕ) → List ℕ
+writesAll m [] = closing m
+writesAll m (r ∷ rs) = writes m r ++ writesAll (feeds m r) rs

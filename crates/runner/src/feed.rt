@@ -10,11 +10,11 @@ use rules::answers::Refusal;
 ghost use Prim.Native.Nat.{_+_, _-_, _≤_};
 ghost use lib.Dec.{leb};
 ghost use mathlib.Core.Path.{_≡_};
-ghost use mathlib.Core.List.{_++_};
 ghost use lib.ListN.{length, take};
 ghost use Rattle.lines.specs.Writing.{page, put};
 ghost use Rattle.runner.specs.Machine.{held-with, holds, fed, written, feeds, writes};
-ghost use Rattle.runner.specs.Feeding.{fedMachine, Ready, HeldPart, FedPart, Moves, Closes, EndsWith};
+ghost use Rattle.runner.specs.Feeding.{fedMachine, Ready, HeldPart, FedPart};
+ghost use Rattle.runner.specs.Kept.{kept, RunSome, Closed};
 
 // What is kept between bytes: what is kept between lines, how many bytes of a line are held, and the
 // place up to which the output is written.
@@ -166,12 +166,7 @@ pub fn run_some(
 ) -> Fed
     requires { ⌜ Ready f (now hold) ⌝ }
     requires { ⌜ f .at ≤ length (now out) ⌝ }
-    ensures { λ r. ⌜ fedMachine (r .feeding) (now (inbox .exit)) (now (outbox .exit)) (now (history .exit)) (now (hold .exit)) ≡ feeds (fedMachine f (now (inbox .entry)) (now (outbox .entry)) (now (history .entry)) (now (hold .entry))) (take (r .next) (now (chunk .entry))) ⌝ }
-    ensures { λ r. ⌜ page (now (out .exit)) (r .feeding .at) ≡ put (page (now (out .entry)) (f .at)) (writes (fedMachine f (now (inbox .entry)) (now (outbox .entry)) (now (history .entry)) (now (hold .entry))) (take (r .next) (now (chunk .entry)))) ⌝ }
-    ensures { λ r. ⌜ Ready (r .feeding) (now (hold .exit)) ⌝ }
-    ensures { λ r. ⌜ take (r .feeding .at) (now (out .exit)) ≡ take (f .at) (now (out .entry)) ++ writes (fedMachine f (now (inbox .entry)) (now (outbox .entry)) (now (history .entry)) (now (hold .entry))) (take (r .next) (now (chunk .entry))) ⌝ }
-    ensures { λ r. ⌜ r .feeding .at ≤ length (now (out .exit)) ⌝ }
-    ensures { λ r. ⌜ Moves f (now (out .entry)) r (now (chunk .entry)) ⌝ }
+    ensures { λ r. ⌜ RunSome (kept f (now (inbox .entry)) (now (outbox .entry)) (now (history .entry)) (now (hold .entry)) (now (out .entry))) (now (chunk .entry)) (r .next) (kept (r .feeding) (now (inbox .exit)) (now (outbox .exit)) (now (history .exit)) (now (hold .exit)) (now (out .exit))) ⌝ }
 {
     let mut g = f;
     let mut k: usize = 0;
@@ -206,9 +201,7 @@ fn has_room(len: usize, at: usize) -> bool
 pub fn close(f: Feeding, hold: &[u8], out: &mut [u8]) -> usize
     requires { ⌜ Ready f (now hold) ⌝ }
     requires { ⌜ f .at + 45000 ≤ length (now out) ⌝ }
-    ensures { λ r. ⌜ Closes f (now (hold .entry)) (page (now (out .entry)) (f .at)) (page (now (out .exit)) r) ⌝ }
-    ensures { λ r. ⌜ EndsWith f (now (hold .entry)) (take (f .at) (now (out .entry))) (take r (now (out .exit))) ⌝ }
-    ensures { λ r. ⌜ r ≤ length (now (out .exit)) ⌝ }
+    ensures { λ r. ⌜ Closed f (now (hold .entry)) (now (out .entry)) (now (out .exit)) r ⌝ }
 {
     let run = f.running;
     let t = run.tally;

@@ -51,11 +51,11 @@ run-some-requires c κs = (c .before .before .before .before .before .before .be
 
 -- src/lib.rt:156:25
 slice-reshare-prefix-written : tie.Need-slice-reshare-prefix-written Inv-loop μ-loop
-slice-reshare-prefix-written c = c .before .before .before .before .before .before .before .before .before .before .before .run-some .ensures .1 .1 .1 .1 .0
+slice-reshare-prefix-written c = c .before .before .before .before .before .before .before .before .before .before .before .run-some .ensures .within
 
 -- src/lib.rt:156:25
 slice-aggregate-written : tie.Need-slice-aggregate-written Inv-loop μ-loop
-slice-aggregate-written c = sym (length-take-le _ _ (c .before .before .before .before .before .before .before .before .before .before .before .before .run-some .ensures .1 .1 .1 .1 .0))
+slice-aggregate-written c = sym (length-take-le _ _ (c .before .before .before .before .before .before .before .before .before .before .before .before .run-some .ensures .within))
 
 -- src/lib.rt:156:9
 written-requires : tie.Need-written-requires Inv-loop μ-loop
@@ -67,7 +67,7 @@ add-from c =
     let first = c .before .before .before .before .before .before .before .before .before .before .before .before .before .before .before .before .before .before .before .before .before .before .before .before .before .before .before .before .before .before in
     let here : c .before .before .before .before .before .before .before .before .before .before .before .before .before .before .before .before .before .before .before .before .before .before .before .loop .from < length (c .before .before .before .before .before .before .before .before .before .before .before .before .before .before .before .before .before .before .before .before .before .before .before .before .before .before .before .before .before .before .args .chunk .now) = ltb-true _ _ (c .before .before .before .before .before .before .before .before .before .before .before .before .before .before .before .before .before .before .before .before .before .if1 .taken) in
     let rest = rest-length (c .before .before .before .before .before .before .before .before .before .before .before .before .before .before .before .before .before .before .before .before .before .before .before .before .before .before .before .before .before .before .args .chunk .now) (c .before .before .before .before .before .before .before .before .before .before .before .before .before .before .before .before .before .before .before .before .before .before .before .loop .from) (from-on (c .before .before .before .before .before .before .before .before .before .before .before .before .before .before .before .before .before .before .before .before .before .before .before .before .before .before .before .before .before .before .args .chunk .now) (c .before .before .before .before .before .before .before .before .before .before .before .before .before .before .before .before .before .before .before .before .before .before .before .loop .from)) in
-    let part = c .before .before .before .before .before .before .before .before .before .before .before .before .before .before .run-some .ensures .1 .1 .1 .1 .1 .within in
+    let part = c .before .before .before .before .before .before .before .before .before .before .before .before .before .before .run-some .ensures .moves .within in
     omega arith
 
 -- src/lib.rt:142:5
@@ -76,7 +76,7 @@ loop-less c =
     let v = c .before .before .before .before .before .before .before .before .before .before .before .before .before .before .before .before .before .before .before .before .before .before .before .loop in
     let here : v .from < length (c .before .before .before .before .before .before .before .before .before .before .before .before .before .before .before .before .before .before .before .before .before .before .before .before .before .before .before .before .before .before .args .chunk .now) = ltb-true _ _ (c .before .before .before .before .before .before .before .before .before .before .before .before .before .before .before .before .before .before .before .before .before .if1 .taken) in
     let rest = rest-length (c .before .before .before .before .before .before .before .before .before .before .before .before .before .before .before .before .before .before .before .before .before .before .before .before .before .before .before .before .before .before .args .chunk .now) (v .from) (from-on (c .before .before .before .before .before .before .before .before .before .before .before .before .before .before .before .before .before .before .before .before .before .before .before .before .before .before .before .before .before .before .args .chunk .now) (v .from)) in
-    let some = c .before .before .before .before .before .before .before .before .before .before .before .before .before .before .run-some .ensures .1 .1 .1 .1 .1 .some (omega (arith, here, rest)) (omega (arith, v .inv .2, v .inv .7, c .before .before .before .before .before .before .before .before .before .before .before .before .before .before .before .before .before .before .before .before .before .before .before .before .before .before .before .before .before .before .pre .1 .1)) in
+    let some = c .before .before .before .before .before .before .before .before .before .before .before .before .before .before .run-some .ensures .moves .some (omega (arith, here, rest)) (omega (arith, v .inv .2, v .inv .7, c .before .before .before .before .before .before .before .before .before .before .before .before .before .before .before .before .before .before .before .before .before .before .before .before .before .before .before .before .before .before .pre .1 .1)) in
     omega (arith, here, some)
 
 -- src/lib.rt:142:5
@@ -86,8 +86,8 @@ loop-again c =
     let here : v .from < length (c .before .before .before .before .before .before .before .before .before .before .before .before .before .before .before .before .before .before .before .before .before .before .before .before .before .before .before .before .before .before .args .chunk .now) = ltb-true _ _ (c .before .before .before .before .before .before .before .before .before .before .before .before .before .before .before .before .before .before .before .before .before .if1 .taken) in
     let rest = rest-length (c .before .before .before .before .before .before .before .before .before .before .before .before .before .before .before .before .before .before .before .before .before .before .before .before .before .before .before .before .before .before .args .chunk .now) (v .from) (from-on (c .before .before .before .before .before .before .before .before .before .before .before .before .before .before .before .before .before .before .before .before .before .before .before .before .before .before .before .before .before .before .args .chunk .now) (v .from)) in
     let r = c .before .before .before .before .before .before .before .before .before .before .before .before .before .before .run-some in
-    let within = r .ensures .1 .1 .1 .1 .1 .within in
-    (omega (arith, here, rest, within), record { counted = r .ensures .1 .1 .0 .counted; held = r .ensures .1 .1 .0 .held; size = r .ensures .1 .1 .0 .size }, refl, search needs, search needs, search needs, search needs, search needs)
+    let within = r .ensures .moves .within in
+    (omega (arith, here, rest, within), record { counted = r .ensures .ready .counted; held = r .ensures .ready .held; size = r .ensures .ready .size }, refl, search needs, search needs, search needs, search needs, search needs)
 
 -- src/lib.rt:122:1
 same-length : tie.Need-same-length Inv-loop μ-loop

@@ -60,11 +60,11 @@ close-requires c κs = (c .before .before .before .before .loop .inv .0, omega (
 
 -- src/lib.rt:73:17
 slice-reshare-prefix-written : tie.Need-slice-reshare-prefix-written Inv-loop μ-loop
-slice-reshare-prefix-written c = c .before .before .close .ensures .1 .1
+slice-reshare-prefix-written c = c .before .before .close .ensures .within
 
 -- src/lib.rt:73:17
 slice-aggregate-written : tie.Need-slice-aggregate-written Inv-loop μ-loop
-slice-aggregate-written c = sym (length-take-le _ _ (c .before .before .before .close .ensures .1 .1))
+slice-aggregate-written c = sym (length-take-le _ _ (c .before .before .before .close .ensures .within))
 
 -- src/lib.rt:73:9
 written-requires : tie.Need-written-requires Inv-loop μ-loop

@@ -1,9 +1,7 @@
 use native.Mathlib.Omega.{arith}
 use Rattle.lines.specs.Writing.{page}
-use lib.ListN.{take}
-use Rattle.runner.specs.Running.{machineOf}
 use Rattle.runner.specs.Feeding.{Closes, EndsWith}
-use Rattle.runner.proofs.Room as room
+use Rattle.runner.proofs.Room.{closed-all}
 use Rattle.runner.proofs.Closing.{closed-stopped, closed-whole, closed-unfinished}
 use borrow.Author.Needs.{needs}
 use Rattle.runner.proofs.feed.close.Statement.{statement}
@@ -27,7 +25,7 @@ returns : tie.Need-returns
 unfolding Closes EndsWith
 returns c =
     let a = c .before .before .before .before .before .before .before .before .before .before .args in
-    room.closed-all _ (a .out .now) _ (a .f .at) (λ i o h. machineOf (a .f .running) i o h (take (a .f .held) (a .hold .now))) (λ i o h. closed-stopped (a .f .running) i o h (a .hold .now) (page (a .out .now) (a .f .at)) (a .f .held) (c .before .before .before .before .if1 .taken) (c .before .before .put-end .ensures)) (c .before .before .before .before .before .before .before .before .before .before .pre .1)
+    closed-all (a .f) (a .hold .now) (a .out .now) _ _ (λ i o h. closed-stopped (a .f .running) i o h (a .hold .now) (page (a .out .now) (a .f .at)) (a .f .held) (c .before .before .before .before .if1 .taken) (c .before .before .put-end .ensures)) (c .before .before .before .before .before .before .before .before .before .before .pre .1)
 
 -- src/feed.rt:150:9
 put-end-requires-2 : tie.Need-put-end-requires-2
@@ -42,7 +40,7 @@ returns-2 : tie.Need-returns-2
 unfolding Closes EndsWith
 returns-2 c =
     let a = c .before .before .before .before .before .before .before .before .before .before .before .args in
-    room.closed-all _ (a .out .now) _ (a .f .at) (λ i o h. machineOf (a .f .running) i o h (take (a .f .held) (a .hold .now))) (λ i o h. closed-whole (a .f .running) i o h (a .hold .now) (page (a .out .now) (a .f .at)) (a .f .held) (c .before .before .before .before .before .if1 .left) (c .before .before .before .before .if2 .taken) (c .before .before .put-end2 .ensures)) (c .before .before .before .before .before .before .before .before .before .before .before .pre .1)
+    closed-all (a .f) (a .hold .now) (a .out .now) _ _ (λ i o h. closed-whole (a .f .running) i o h (a .hold .now) (page (a .out .now) (a .f .at)) (a .f .held) (c .before .before .before .before .before .if1 .left) (c .before .before .before .before .if2 .taken) (c .before .before .put-end2 .ensures)) (c .before .before .before .before .before .before .before .before .before .before .before .pre .1)
 
 -- src/feed.rt:154:9
 put-reply-line-requires : tie.Need-put-reply-line-requires
@@ -68,7 +66,7 @@ returns-3 : tie.Need-returns-3
 unfolding Closes EndsWith
 returns-3 c =
     let a = c .before .before .before .before .before .before .before .before .before .before .before .before .before .before .before .before .args in
-    room.closed-all _ (a .out .now) _ (a .f .at) (λ i o h. machineOf (a .f .running) i o h (take (a .f .held) (a .hold .now))) (λ i o h. closed-unfinished (a .f .running) i o h (a .hold .now) (page (a .out .now) (a .f .at)) (a .f .held) (c .before .before .before .before .before .before .before .before .before .before .if1 .left) (c .before .before .before .before .before .before .before .before .before .if2 .left) (c .before .before .before .before .before .before .before .before .before .before .before .before .before .before .before .before .pre .0 .size) (c .before .before .before .raised .result) (c .before .before .before .before .before .before .before .put-reply-line .ensures) (c .before .before .before .raised .ensures) (c .before .before .put-end3 .ensures)) (c .before .before .before .before .before .before .before .before .before .before .before .before .before .before .before .before .pre .1)
+    closed-all (a .f) (a .hold .now) (a .out .now) _ _ (λ i o h. closed-unfinished (a .f .running) i o h (a .hold .now) (page (a .out .now) (a .f .at)) (a .f .held) (c .before .before .before .before .before .before .before .before .before .before .if1 .left) (c .before .before .before .before .before .before .before .before .before .if2 .left) (c .before .before .before .before .before .before .before .before .before .before .before .before .before .before .before .before .pre .0 .size) (c .before .before .before .raised .result) (c .before .before .before .before .before .before .before .put-reply-line .ensures) (c .before .before .before .raised .ensures) (c .before .before .put-end3 .ensures)) (c .before .before .before .before .before .before .before .before .before .before .before .before .before .before .before .before .pre .1)
 
 pub close-spec : {M : Type 1} → statement M
 close-spec =

@@ -91,7 +91,7 @@ returns c =
     let v = c .before .before .before .loop in
     let w = whole _ _ _ _ _ (v .inv .2) (v .inv .4) in
     let full = no-room (c .before .has-room .result) _ _ (c .before .has-room .ensures) (c .if1 .taken) in
-    (v .inv .1, (v .inv .2, (v .inv .3, (w .0, (w .1, record { within = v .inv .0; some = λ some room. some-moved (v .k) _ _ _ _ (v .inv .9) (v .inv .10) full room })))))
+    record { machine = v .inv .1; page = v .inv .2; ready = v .inv .3; text = w .0; within = w .1; moves = record { within = v .inv .0; some = λ some room. some-moved (v .k) _ _ _ _ (v .inv .9) (v .inv .10) full room } }
 
 -- src/feed.rt:119:65
 sub-feed-part : tie.Need-sub-feed-part Inv-loop μ-loop
@@ -180,7 +180,7 @@ returns-2 c =
     let v = c .before .loop in
     let w = whole _ _ _ _ _ (v .inv .2) (v .inv .4) in
     let all : length (c .before .before .before .before .before .before .before .before .args .chunk .now) ≤ v .k = c .loop-test .left in
-    (v .inv .1, (v .inv .2, (v .inv .3, (w .0, (w .1, record { within = v .inv .0; some = λ some room. omega (arith, all, some) })))))
+    record { machine = v .inv .1; page = v .inv .2; ready = v .inv .3; text = w .0; within = w .1; moves = record { within = v .inv .0; some = λ some room. omega (arith, all, some) } }
 
 pub run-some-spec : {M : Type 1} → statement M
 run-some-spec =

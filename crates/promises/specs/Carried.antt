@@ -1,0 +1,61 @@
+-- Words for what carries the demands to the code: the calls that an input makes, and a chain of reads as the contracts of the book runner's functions have it. What is promised of them stands in Promises.
+use Prim.Native.Nat.{ℕ}
+use mathlib.Core.Path.{_≡_}
+use mathlib.Core.List.{List, [], _∷_, _++_}
+use lib.ListN.{length, take}
+use Rattle.promises.specs.Types.{Nonce, Payment, Call, Line}
+use Rattle.rules.specs.Lists.{those, joined}
+use Rattle.rules.specs.State.{Book, view}
+use Rattle.rules.specs.Transcript.{InputLine, inputLines, readInput, transcript}
+use Rattle.runner.specs.Machine.{Machine, start, feeds}
+use Rattle.runner.specs.Kept.{Kept, onPage, Begins, RunSome}
+
+-- ---- the calls of an input
+-- the call that a line reads as; a Malformed line is none
+unfoldable pub callOf : Line → List Call
+callOf (Line.Reads c) = c ∷ []
+callOf Line.Malformed = []
+
+-- the calls that these lines read as, in order
+unfoldable pub callsOf : List InputLine → List Call
+callsOf ls = joined (λ l. callOf (readInput l)) ls
+
+-- the calls that these bytes make: those of the first 100,000 lines. A last line whose line feed has not come is Malformed, so it is none
+abbrev pub callsIn : List ℕ → List Call
+callsIn input = callsOf (inputLines input)
+
+-- the lines whose line feed has come
+unfoldable pub ended : List InputLine → List InputLine
+ended ls = those (λ l. l .finished) ls
+
+-- ---- the book runner as a machine (crate runner, specs/Machine)
+-- the machine after these bytes, from the start
+abbrev pub after : List ℕ → Machine
+after input = feeds start input
+
+-- the text is a beginning of the transcript of these bytes, whatever bytes come after them
+abbrev pub Beginning : List ℕ → List ℕ → Type 0
+Beginning input text = (more : List ℕ) → take (length text) (transcript (input ++ more)) ≡ text
+
+-- what a book shows the outside by itself: the payments in flight, those waiting, and the next nonce
+abbrev pub outboxShown : Book → List Payment × List Payment × Nonce
+outboxShown b = (view b .outside .inflight, view b .outside .waiting, view b .outside .next)
+
+-- ---- the book runner as code, by its contracts (crate runner, specs/Kept)
+-- the page is given out, and the same page or another is written from its beginning
+abbrev pub turned : Kept → List ℕ → Kept
+turned k out =
+    record {
+      feeding = record { running = k .feeding .running; held = k .feeding .held; at = 0 };
+      inbox = k .inbox;
+      outbox = k .outbox;
+      history = k .history;
+      hold = k .hold;
+      out = out;
+    }
+
+-- a chain of reads: `read` are the bytes that were taken so far, `given` are those that were given out. It begins; `run_some` is called, with any bytes and however far it came; the page is given out, at any time
+pub data Chain : List ℕ → List ℕ → Kept → Type 0 where
+  begins : {k : Kept} → Begins k → Chain [] [] k
+  reads : {read given : List ℕ} {before left : Kept} (chunk : List ℕ) (next : ℕ) → Chain read given before → RunSome before chunk next left → Chain (read ++ take next chunk) given left
+  gives : {read given : List ℕ} {k : Kept} (out : List ℕ) → Chain read given k → Chain read (given ++ onPage k) (turned k out)
