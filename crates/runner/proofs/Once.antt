@@ -18,7 +18,7 @@ use Rattle.lines.proofs.PageLaws.{upto, bytes}
 use Rattle.runner.specs.declared.step.Stepped.{Stepped}
 use Rattle.runner.specs.declared.running.Running.{Running}
 use Rattle.runner.specs.declared.feed.Feeding.{Feeding}
-use Rattle.runner.specs.Machine.{Machine, outcomeFor, answered, fed, written, feeds, writes}
+use Rattle.runner.specs.Machine.{Machine, outcomeFor, answered, feeds, writes}
 use Rattle.runner.specs.Step.{Replied, repliedOf, replied}
 use Rattle.runner.specs.Running.{machineOf}
 use Rattle.runner.specs.Feeding.{fedMachine, Ready, Closes, Begun}
@@ -77,7 +77,7 @@ answer-line-once m l out at r r′ i i′ o o′ h h′ n n′ p p′ e f x y =
     let q = put-once out at (replyText (m .line) (outcomeFor m l)) n n′ p p′ x y in
     (g .0, g .1, g .2, g .3, q .0, q .1)
 
--- ---- feed_byte and run_some: all that is kept, every number of the three tables, every byte of the page, and of the held bytes those that belong to the line. Left open: the bytes of that buffer past them, on which no contract depends
+-- ---- run_some: all that is kept, every number of the three tables, every byte of the page, and of the held bytes those that belong to the line. Left open: the bytes of that buffer past them, on which no contract depends
 abbrev pub OneFed : Machine → Page → Type 0
 OneFed m left =
     (r r′ : Feeding) (i i′ o o′ h h′ hold hold′ p p′ : List ℕ) → Ready r hold → Ready r′ hold′ → fedMachine r i o h hold ≡ m → fedMachine r′ i′ o′ h′ hold′ ≡ m
@@ -99,9 +99,6 @@ fed-once m left r r′ i i′ o o′ h h′ hold hold′ p p′ a a′ e f x y =
       rw n (rw n at (g .4)),
       ap bytes (x ∙ sym y),
     )
-
-pub feed-byte-once : (m : Machine) (before : Page) (b : ℕ) → OneFed (fed m b) (put before (written m b))
-feed-byte-once m before b = fed-once (fed m b) (put before (written m b))
 
 -- of run_some how far it came, `next`, is left open, but that it moves where there is room (Moves): it stops where the page has no room for the longest reply. Whatever it is, it fixes the rest, and the bytes from there on are fed by the next call
 pub run-some-once : (m : Machine) (before : Page) (chunk : List ℕ) (next : ℕ) → OneFed (feeds m (take next chunk)) (put before (writes m (take next chunk)))

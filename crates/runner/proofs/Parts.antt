@@ -1,6 +1,6 @@
 -- A part of a read fed at once: bytes that hold no line feed are held, and write nothing.
 use Prim.Native.Nat.{ℕ, zero, suc, _+_, _-_, _≤_, _<_}
-use mathlib.Core.Path.{_≡_, refl, sym, ap, _∙_}
+use mathlib.Core.Path.{_≡_, refl, sym, ap, subst, _∙_}
 use mathlib.Core.Bool.{Bool, true, false, not, _&&_, cond}
 use mathlib.Core.Logic.{_≢_}
 use mathlib.Core.List.{List, [], _∷_, _++_, append-nil}
@@ -11,14 +11,23 @@ use lib.ListN.{length, getD, take, drop, length-append, length-drop}
 use lib.Seq.{take-suc, take-add}
 use borrow.Author.Tests.{lt-ltb, le-ltb, ne-eqb, leb-true}
 use Rattle.rules.specs.Lists.{all}
-use Rattle.rules.specs.Lines.{lineFeed}
+use Rattle.rules.specs.declared.calls.Line.{Line}
+use Rattle.rules.specs.Lines.{lineFeed, readLine}
+use Rattle.rules.specs.Transcript.{replyText}
 use Rattle.lines.specs.Writing.{Page, page, put}
 use Rattle.lines.proofs.PageLaws.{put-then, put-nothing}
 use Rattle.runner.specs.declared.running.Running.{Running}
-use Rattle.runner.specs.Machine.{Machine, held-with, holds, fed, written, feeds, writes}
-use Rattle.runner.specs.Running.{machineOf}
+use Rattle.runner.specs.declared.running.Written.{Written}
+use Rattle.runner.specs.declared.feed.Feeding.{Feeding}
+use Rattle.runner.specs.declared.feed.Held.{Held}
+use Rattle.runner.specs.declared.feed.Fed.{Fed}
+use Rattle.runner.specs.Machine.{Machine, held-with, holds, outcomeFor, answered, fed, written, feeds, writes}
+use Rattle.runner.specs.Running.{machineOf, Counted}
+use Rattle.runner.specs.Feeding.{fedMachine, Ready, HeldPart}
+use Rattle.runner.specs.Kept.{kept, RunSome}
 use Rattle.runner.proofs.Cuts.{feeds-append, writes-append}
-use Rattle.runner.proofs.Room.{written-fits, put-upto, put-size}
+use Rattle.runner.proofs.Room.{whole}
+use Rattle.runner.proofs.Feeds.{line-fed, line-written, feed-more, write-more, room-more, none-fed, none-written, none-fits}
 
 abbrev pub noFeed : ℕ → Bool
 noFeed b = not (eqb b lineFeed)
@@ -91,20 +100,6 @@ module _ (run : Running) (i o h : List ℕ) where
   pub stopped-writes : (held bs : List ℕ) → 100000 < run .line → writes (machineOf run i o h held) bs ≡ []
   stopped-writes held bs s = stopped-both held bs s .1
 
--- ---- what they write
-pub nothing-put : (p : Page) (t : List ℕ) → t ≡ [] → p ≡ put p t
-nothing-put p t e = rw e (put-nothing p)
-
-pub nothing-short : (t : List ℕ) → t ≡ [] → length t ≤ 43134
-nothing-short t e = rw e (omega arith)
-
--- a byte after bytes that write nothing
-pub one-short : (m : Machine) (chunk : List ℕ) (k : ℕ) → k < length chunk → writes m (take k chunk) ≡ [] → length (writes m (take (k + 1) chunk)) ≤ 43134
-unfolding writes
-one-short m chunk k here e =
-    rw (add-one k, take-suc chunk k 0 here, writes-append m (take k chunk) (getD chunk k 0 ∷ []), e, append-nil)
-    (written-fits (feeds m (take k chunk)) (getD chunk k 0))
-
 -- ---- part after part of a read
 module _ (m : Machine) (chunk : List ℕ) (k n : ℕ) {part : List ℕ} (s : part ≡ drop k chunk) {m′ : Machine} (e : m′ ≡ feeds m (take k chunk)) where
   pub part-more : {m″ : Machine} → m″ ≡ feeds m′ (take n part) → m″ ≡ feeds m (take (k + n) chunk)
@@ -113,23 +108,76 @@ module _ (m : Machine) (chunk : List ℕ) (k n : ℕ) {part : List ℕ} (s : par
   writes-both : writes m (take (k + n) chunk) ≡ writes m (take k chunk) ++ writes m′ (take n part)
   writes-both = rw (take-add k n chunk, ← s, writes-append m (take k chunk) (take n part), ← e)
 
-  pub text-more : (p : Page) {q r : Page} → q ≡ put p (writes m (take k chunk)) → r ≡ put q (writes m′ (take n part)) → r ≡ put p (writes m (take (k + n) chunk))
-  text-more p f g = rw writes-both (put-then p (writes m (take k chunk)) (writes m′ (take n part)) f g)
-
-  -- there was room for it, so it is written whole
-  pub room-part : (o o₀ : List ℕ) (at at₀ : ℕ) → page o at ≡ put (page o₀ at₀) (writes m (take k chunk)) → at₀ + length (writes m (take k chunk)) ≤ length o₀
-      → leb 45000 (length o - at) ≡ true → length (writes m′ (take n part)) ≤ 43134 → at₀ + length (writes m (take (k + n) chunk)) ≤ length o₀
-  room-part o o₀ at at₀ f h r w =
-      let text = writes m (take k chunk) in
-      let more = writes m′ (take n part) in
-      let x : at ≡ put (page o₀ at₀) text .upto = ap (λ (p : Page). p .upto) f in
-      let y : o ≡ put (page o₀ at₀) text .bytes = ap (λ (p : Page). p .bytes) f in
-      let u = put-upto o₀ at₀ text h in
-      let z : length o ≡ length o₀ = ap (λ (t : List ℕ). length t) y ∙ put-size (page o₀ at₀) text in
-      let l = length-append text more in
-      let q = leb-true 45000 (length o - at) r in
-      rw writes-both (omega (arith, x, u, z, w, l, q, h))
-
 -- the rest of a read from k on, as a lent slice
 pub rest-length : (chunk : List ℕ) (k : ℕ) {part : List ℕ} → part ≡ drop k chunk → length part ≡ length chunk - k
 rest-length chunk k s = rw s (length-drop k chunk)
+
+-- ---- how far `run_some` has come: k bytes of the read are fed, and what they write stands whole on the page
+pub record SoFar (m : Machine) (chunk out₀ : List ℕ) (at₀ k : ℕ) (f : Feeding) (i o h hold out : List ℕ) : Type 0 where
+  pub within : k ≤ length chunk
+  pub machine : fedMachine f i o h hold ≡ feeds m (take k chunk)
+  pub text : page out (f .at) ≡ put (page out₀ at₀) (writes m (take k chunk))
+  pub ready : Ready f hold
+  pub fits : at₀ + length (writes m (take k chunk)) ≤ length out₀
+
+pub so-begun : (f : Feeding) (i o h hold out chunk : List ℕ) → Ready f hold → f .at ≤ length out → SoFar (fedMachine f i o h hold) chunk out (f .at) 0 f i o h hold out
+so-begun f i o h hold out chunk r l =
+    let m : Machine = fedMachine f i o h hold in
+    record { within = omega arith; machine = none-fed m chunk; text = none-written m chunk (page out (f .at)); ready = r; fits = none-fits m chunk out (f .at) l }
+
+module _ (m : Machine) (chunk out₀ : List ℕ) (at₀ k : ℕ) (f : Feeding) (i o h hold out : List ℕ) (s : SoFar m chunk out₀ at₀ k f i o h hold out) where
+  -- bytes that write nothing, n of them
+  quiet : (n : ℕ) {part : List ℕ} → part ≡ drop k chunk → n ≤ length part → (g : Feeding) (hold′ : List ℕ) → g .at ≡ f .at → fedMachine g i o h hold′ ≡ feeds (fedMachine f i o h hold) (take n part)
+      → writes (fedMachine f i o h hold) (take n part) ≡ [] → Ready g hold′ → SoFar m chunk out₀ at₀ (k + n) g i o h hold′ out
+  quiet n {part} q l g hold′ a e w r =
+      let rest = rest-length chunk k q in
+      let same : writes m (take (k + n) chunk) ≡ writes m (take k chunk) = writes-both m chunk k n q (s .machine) ∙ rw w (append-nil (writes m (take k chunk))) in
+      record {
+        within = omega (arith, rest, l, s .within);
+        machine = part-more m chunk k n q (s .machine) e;
+        text = rw (a, same) (s .text);
+        ready = r;
+        fits = rw same (s .fits);
+      }
+
+  -- "stops after 100,000 lines": the rest of the read is passed over
+  pub so-stopped : 100000 < f .running .line → SoFar m chunk out₀ at₀ (length chunk) f i o h hold out
+  so-stopped l =
+      let n = length chunk - k in
+      let all : k + n ≡ length chunk = let w = s .within in omega arith in
+      let held = take (f .held) hold in
+      subst (λ (j : ℕ). SoFar m chunk out₀ at₀ j f i o h hold out) all
+      (quiet n refl (rw (length-drop k chunk) (omega arith)) f hold refl (stopped-feeds (f .running) i o h held (take n (drop k chunk)) l) (stopped-writes (f .running) i o h held (take n (drop k chunk)) l) (s .ready))
+
+  -- the bytes up to the next line feed are held
+  pub so-held : f .running .line ≤ 100000 → (r : Held) {part : List ℕ} → part ≡ drop k chunk → (hold′ : List ℕ) → length hold′ ≡ length hold → take (r .held) hold′ ≡ holds (take (f .held) hold) (take (r .next) part) → HeldPart r part
+      → SoFar m chunk out₀ at₀ (k + r .next) (record { running = f .running; held = r .held; at = f .at }) i o h hold′ out
+  so-held l r {part} q hold′ z e p =
+      let held = take (f .held) hold in
+      quiet (r .next) q (p .within) (record { running = f .running; held = r .held; at = f .at }) hold′ refl
+      (part-fed (f .running) i o h held (take (r .next) part) (take (r .held) hold′) l (p .noFeed) e)
+      (part-written (f .running) i o h held (take (r .next) part) l (p .noFeed))
+      (record { counted = s .ready .counted; held = p .few; size = z ∙ s .ready .size })
+
+  -- and the line is answered
+  pub so-answered : k < length chunk → getD chunk k 0 ≡ 10 → f .running .line ≤ 100000 → (l : Line) → l ≡ readLine (take (f .held) hold) → leb 45000 (length out - f .at) ≡ true
+      → (w : Written) (i′ o′ h′ out′ : List ℕ) → machineOf (w .running) i′ o′ h′ [] ≡ answered (machineOf (f .running) i o h []) (outcomeFor (machineOf (f .running) i o h []) l)
+      → page out′ (w .at) ≡ put (page out (f .at)) (replyText (f .running .line) (outcomeFor (machineOf (f .running) i o h []) l)) → Counted (w .running)
+      → SoFar m chunk out₀ at₀ (k + 1) (record { running = w .running; held = 0; at = w .at }) i′ o′ h′ hold out′
+  so-answered here b few l rd room w i′ o′ h′ out′ e g c =
+      let held = take (f .held) hold in
+      record {
+        within = omega arith;
+        machine = feed-more m chunk k here (s .machine) (line-fed (f .running) i o h held (getD chunk k 0) few b l rd (machineOf (w .running) i′ o′ h′ []) e);
+        text = write-more m chunk k here (s .machine) (page out₀ at₀) (s .text) (line-written (f .running) i o h held (getD chunk k 0) few b l rd (page out (f .at)) g);
+        ready = record { counted = c; held = omega arith; size = s .ready .size };
+        fits = room-more m chunk k here (s .machine) out out₀ (f .at) at₀ (s .text) (s .fits) room;
+      }
+
+-- the contract, wherever it stops
+pub so-some : (f₀ : Feeding) (i₀ o₀ h₀ hold₀ out₀ chunk : List ℕ) (k : ℕ) (f : Feeding) (i o h hold out : List ℕ) → SoFar (fedMachine f₀ i₀ o₀ h₀ hold₀) chunk out₀ (f₀ .at) k f i o h hold out
+    → (0 < length chunk → 45000 ≤ length out₀ - f₀ .at → 0 < k) → (r : Fed) → r ≡ record { feeding = f; next = k } → RunSome (kept f₀ i₀ o₀ h₀ hold₀ out₀) chunk (r .next) (kept (r .feeding) i o h hold out)
+so-some f₀ i₀ o₀ h₀ hold₀ out₀ chunk k f i o h hold out s moved r e =
+    let w = whole out out₀ (f .at) (f₀ .at) (writes (fedMachine f₀ i₀ o₀ h₀ hold₀) (take k chunk)) (s .text) (s .fits) in
+    subst (λ (x : Fed). RunSome (kept f₀ i₀ o₀ h₀ hold₀ out₀) chunk (x .next) (kept (x .feeding) i o h hold out)) (sym e)
+    (record { machine = s .machine; page = s .text; ready = s .ready; text = w .0; within = w .1; moves = record { within = s .within; some = moved } })

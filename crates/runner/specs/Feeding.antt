@@ -8,7 +8,7 @@ use Rattle.rules.specs.Lines.{lineFeed}
 use Rattle.runner.specs.declared.feed.Held.{Held}
 use Rattle.runner.specs.declared.feed.Fed.{Fed}
 use mathlib.Core.List.{List, _++_}
-use lib.ListN.{length, take}
+use lib.ListN.{length, getD, take}
 use Rattle.rules.specs.State.{deskOf, emptyState}
 use Rattle.lines.specs.Writing.{Page, put}
 use Rattle.runner.specs.declared.feed.Feeding.{Feeding}
@@ -25,17 +25,12 @@ pub record Ready (f : Feeding) (hold : List ℕ) : Type 0 where
   pub held : f .held ≤ 121
   pub size : length hold ≡ 121
 
--- the bytes that were held are a beginning of the read, and no line feed is among them
+-- the bytes that were held are a beginning of the read, with no line feed among them, up to the next one or to the end
 pub record HeldPart (r : Held) (chunk : List ℕ) : Type 0 where
   pub few : r .held ≤ 121
   pub within : r .next ≤ length chunk
   pub noFeed : all (λ b. not (eqb b lineFeed)) (take (r .next) chunk) ≡ true
-
--- some bytes were fed, where there are any, and wrote no more than the longest reply
-pub record FedPart (r : Fed) (text chunk : List ℕ) : Type 0 where
-  pub within : r .next ≤ length chunk
-  pub some : 0 < length chunk → 0 < r .next
-  pub short : length text ≤ 43134
+  pub feed : r .next < length chunk → getD chunk (r .next) 0 ≡ lineFeed
 
 -- no byte is fed that is not there; and where there are bytes, and room for the longest reply, some are fed
 pub record Moves (f : Feeding) (out : List ℕ) (r : Fed) (chunk : List ℕ) : Type 0 where

@@ -11,9 +11,8 @@ ghost use Prim.Native.Nat.{_+_, _-_, _≤_};
 ghost use lib.Dec.{leb};
 ghost use mathlib.Core.Path.{_≡_};
 ghost use lib.ListN.{length, take};
-ghost use Rattle.lines.specs.Writing.{page, put};
-ghost use Rattle.runner.specs.Machine.{held-with, holds, fed, written, feeds, writes};
-ghost use Rattle.runner.specs.Feeding.{fedMachine, Ready, HeldPart, FedPart};
+ghost use Rattle.runner.specs.Machine.{held-with, holds};
+ghost use Rattle.runner.specs.Feeding.{Ready, HeldPart};
 ghost use Rattle.runner.specs.Kept.{kept, RunSome, Closed};
 
 // What is kept between bytes: what is kept between lines, how many bytes of a line are held, and the
@@ -37,44 +36,6 @@ fn hold_byte(hold: &mut [u8], held: usize, b: u8) -> usize
         return held + 1;
     }
     held
-}
-
-// One byte in: after 100,000 lines nothing, at a line feed the line is answered, and any other is held.
-pub fn feed_byte(
-    f: Feeding,
-    inbox: &mut [u64],
-    outbox: &mut [u64],
-    history: &mut [u64],
-    hold: &mut [u8],
-    out: &mut [u8],
-    b: u8,
-) -> Feeding
-    requires { ⌜ Ready f (now hold) ⌝ }
-    ensures { λ r. ⌜ fedMachine r (now (inbox .exit)) (now (outbox .exit)) (now (history .exit)) (now (hold .exit)) ≡ fed (fedMachine f (now (inbox .entry)) (now (outbox .entry)) (now (history .entry)) (now (hold .entry))) b ⌝ }
-    ensures { λ r. ⌜ page (now (out .exit)) (r .at) ≡ put (page (now (out .entry)) (f .at)) (written (fedMachine f (now (inbox .entry)) (now (outbox .entry)) (now (history .entry)) (now (hold .entry))) b) ⌝ }
-    ensures { λ r. ⌜ Ready r (now (hold .exit)) ⌝ }
-{
-    let run = f.running;
-    if 100000 < run.line {
-        return f;
-    }
-    let n = f.held;
-    if b != 10 {
-        let held = hold_byte(hold, n, b);
-        return Feeding {
-            running: run,
-            held,
-            at: f.at,
-        };
-    }
-    let l = read_line(&hold[..n]);
-    let w = answer_line(run, inbox, outbox, history, out, f.at, l);
-    let running = w.running;
-    Feeding {
-        running,
-        held: 0,
-        at: w.at,
-    }
 }
 
 // How far a read was fed.
@@ -108,50 +69,6 @@ fn hold_part(hold: &mut [u8], held: usize, chunk: &[u8]) -> Held
     Held { held: n, next: k }
 }
 
-// Feeds a read up to its next line feed and with it, or all of the read: the desk is handed on once a
-// line, not once a byte.
-fn feed_part(
-    f: Feeding,
-    inbox: &mut [u64],
-    outbox: &mut [u64],
-    history: &mut [u64],
-    hold: &mut [u8],
-    out: &mut [u8],
-    chunk: &[u8],
-) -> Fed
-    requires { ⌜ Ready f (now hold) ⌝ }
-    ensures { λ r. ⌜ fedMachine (r .feeding) (now (inbox .exit)) (now (outbox .exit)) (now (history .exit)) (now (hold .exit)) ≡ feeds (fedMachine f (now (inbox .entry)) (now (outbox .entry)) (now (history .entry)) (now (hold .entry))) (take (r .next) (now (chunk .entry))) ⌝ }
-    ensures { λ r. ⌜ page (now (out .exit)) (r .feeding .at) ≡ put (page (now (out .entry)) (f .at)) (writes (fedMachine f (now (inbox .entry)) (now (outbox .entry)) (now (history .entry)) (now (hold .entry))) (take (r .next) (now (chunk .entry)))) ⌝ }
-    ensures { λ r. ⌜ Ready (r .feeding) (now (hold .exit)) ⌝ }
-    ensures { λ r. ⌜ FedPart r (writes (fedMachine f (now (inbox .entry)) (now (outbox .entry)) (now (history .entry)) (now (hold .entry))) (take (r .next) (now (chunk .entry)))) (now (chunk .entry)) ⌝ }
-{
-    let run = f.running;
-    if 100000 < run.line {
-        return Fed {
-            feeding: f,
-            next: chunk.len(),
-        };
-    }
-    let h = hold_part(hold, f.held, chunk);
-    let k = h.next;
-    let g = Feeding {
-        running: run,
-        held: h.held,
-        at: f.at,
-    };
-    if chunk.len() <= k {
-        return Fed {
-            feeding: g,
-            next: k,
-        };
-    }
-    let fed = feed_byte(g, inbox, outbox, history, hold, out, chunk[k]);
-    Fed {
-        feeding: fed,
-        next: k + 1,
-    }
-}
-
 // Feeds a read, line after line, while the output has room for the longest reply: two numbers and
 // 1,024 pieces of 42 bytes are fewer than 45,000. Answers how far it came; what is written is lent on,
 // and the rest of the read is fed with a new page.
@@ -168,23 +85,39 @@ pub fn run_some(
     requires { ⌜ f .at ≤ length (now out) ⌝ }
     ensures { λ r. ⌜ RunSome (kept f (now (inbox .entry)) (now (outbox .entry)) (now (history .entry)) (now (hold .entry)) (now (out .entry))) (now (chunk .entry)) (r .next) (kept (r .feeding) (now (inbox .exit)) (now (outbox .exit)) (now (history .exit)) (now (hold .exit)) (now (out .exit))) ⌝ }
 {
-    let mut g = f;
+    let mut run = f.running;
+    let mut held = f.held;
+    let mut at = f.at;
     let mut k: usize = 0;
     while k < chunk.len() {
-        if !has_room(out.len(), g.at) {
-            return Fed {
-                feeding: g,
-                next: k,
-            };
+        if !has_room(out.len(), at) {
+            return so_far(run, held, at, k);
         }
-        let part = feed_part(g, inbox, outbox, history, hold, out, &chunk[k..]);
-        g = part.feeding;
-        k += part.next;
+        if 100000 < run.line {
+            return so_far(run, held, at, chunk.len());
+        }
+        let h = hold_part(hold, held, &chunk[k..]);
+        k += h.next;
+        held = h.held;
+        if chunk.len() <= k {
+            return so_far(run, held, at, k);
+        }
+        let l = read_line(&hold[..held]);
+        let w = answer_line(run, inbox, outbox, history, out, at, l);
+        run = w.running;
+        at = w.at;
+        held = 0;
+        k += 1;
     }
-    Fed {
-        feeding: g,
-        next: k,
-    }
+    so_far(run, held, at, k)
+}
+
+// What is kept so far, and how far it came.
+fn so_far(running: Running, held: usize, at: usize, next: usize) -> Fed
+    ensures { λ r. ⌜ r ≡ record { feeding = record { running = running; held = held; at = at }; next = next } ⌝ }
+{
+    let feeding = Feeding { running, held, at };
+    Fed { feeding, next }
 }
 
 // Whether the page has room for the longest reply.

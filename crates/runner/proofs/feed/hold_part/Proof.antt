@@ -38,7 +38,7 @@ same-length c = search needs
 returns : tie.Need-returns Inv-loop μ-loop
 returns c =
     let v = c .before .before .before .loop in
-    (v .inv .1, record { few = v .inv .3; within = v .inv .0; noFeed = v .inv .2 })
+    (v .inv .1, record { few = v .inv .3; within = v .inv .0; noFeed = v .inv .2; feed = λ more. c .if1 .taken })
 
 -- src/feed.rt:107:32
 shared-slice-read-hold-byte : tie.Need-shared-slice-read-hold-byte Inv-loop μ-loop
@@ -74,7 +74,8 @@ same-length-2 c = search needs
 returns-2 : tie.Need-returns-2 Inv-loop μ-loop
 returns-2 c =
     let v = c .before .loop in
-    (v .inv .1, record { few = v .inv .3; within = v .inv .0; noFeed = v .inv .2 })
+    let all : length (c .before .before .before .before .args .chunk .now) ≤ v .k = c .loop-test .left in
+    (v .inv .1, record { few = v .inv .3; within = v .inv .0; noFeed = v .inv .2; feed = λ more. absurd (omega (arith, all, more)) })
 
 pub hold-part-spec : {M : Type 1} → statement M
 hold-part-spec =
