@@ -16,13 +16,11 @@ pub all-step : (p : ℕ → Bool) (s : List ℕ) (i : ℕ) → i < length s → 
 unfolding all
 all-step p s i h = rw (add-one, drop-cons s i 0)
 
--- what was found so far, and one number more
-pub all-found : (p : ℕ → Bool) (s : List ℕ) (i : ℕ) → i < length s → (good r : Bool) → all p s ≡ good && all p (drop i s) → r ≡ p (getD s i 0) → all p s ≡ (good && r) && all p (drop (i + 1) s)
-all-found p s i h good r e f = e ∙ ap (λ (t : Bool). good && t) (all-step p s i h) ∙ rw (← f) (go good r (all p (drop (i + 1) s)))
-  where
-    go : (a b c : Bool) → a && (b && c) ≡ (a && b) && c
-    go true b c = refl
-    go false b c = refl
+pub all-fails : (p : ℕ → Bool) (s : List ℕ) (i : ℕ) → i < length s → p (getD s i 0) ≡ false → all p (drop i s) ≡ false
+all-fails p s i h e = all-step p s i h ∙ rw e
+
+pub all-goes : (p : ℕ → Bool) (s : List ℕ) (i : ℕ) → i < length s → p (getD s i 0) ≡ true → all p (drop i s) ≡ all p (drop (i + 1) s)
+all-goes p s i h e = all-step p s i h ∙ rw e
 
 pub all-end : (p : ℕ → Bool) (s : List ℕ) (i : ℕ) → length s ≤ i → all p (drop i s) ≡ true
 unfolding all

@@ -43,18 +43,18 @@ fn lists_in_frame(d: Desk) -> bool
             & (all_within(&d.settled, 0, 1000000000000000) & all_within(&d.holders, 1, 16)))
 }
 
-// Whether every number of the slice is from lo to hi. There is no way out of the loop before its end: so
-// the numbers are compared several at a time.
+// Whether every number of the slice is from lo to hi.
 fn all_within(s: &[u64], lo: u64, hi: u64) -> bool
     ensures { λ r. ⌜ r ≡ all (within lo hi) (now (s .entry)) ⌝ }
 {
-    let mut good = true;
     let mut i: usize = 0;
     while i < s.len() {
-        good = good & is_within(lo, hi, s[i]);
+        if !is_within(lo, hi, s[i]) {
+            return false;
+        }
         i += 1;
     }
-    good
+    true
 }
 
 // The inbox: its size, its count, and each used row against the one before it.
