@@ -8,7 +8,9 @@ use runner::start::start;
 ghost use Prim.Native.Nat.{_≤_};
 ghost use mathlib.Core.Path.{_≡_};
 ghost use lib.ListN.{length};
-ghost use Rattle.runner.specs.Feeding.{Ready};
+ghost use mathlib.Core.Bool.{true};
+ghost use Rattle.runner.specs.Machine.{feeds};
+ghost use Rattle.runner.specs.Feeding.{fedMachine, Ready};
 
 // A whole session on what is open as fd, in tables of document 01's sizes, all zero.
 pub fn run(fd: i32) {
@@ -107,7 +109,8 @@ fn read_once(
 }
 
 // A read may be answered with more than a page holds: it is fed in parts, and each page written before
-// the next. After 100,000 lines, or where a write fails, there is no other turn.
+// the next. Every byte of the read is fed, once and in order, unless a write fails. After 100,000 lines, or
+// where a write fails, there is no other turn.
 fn answer_read(
     f: Feeding,
     inbox: &mut [u64],
@@ -122,27 +125,34 @@ fn answer_read(
     requires { ⌜ length (now out) ≡ 65536 ⌝ }
     ensures { λ r. ⌜ Ready (r .feeding) (now (hold .exit)) ⌝ }
     ensures { λ r. ⌜ r .feeding .at ≡ 0 ⌝ }
+    ensures { λ r. ⌜ (r .whole ≡ true → fedMachine (r .feeding) (now (inbox .exit)) (now (outbox .exit)) (now (history .exit)) (now (hold .exit)) ≡ feeds (fedMachine f (now (inbox .entry)) (now (outbox .entry)) (now (history .entry)) (now (hold .entry))) (now (chunk .entry))) ⌝ }
 {
     let mut g = f;
     let mut from: usize = 0;
-    let mut whole = true;
-    while whole && from < chunk.len() {
+    while from < chunk.len() {
         let r = run_some(g, inbox, outbox, history, hold, out, &chunk[from..]);
         let fed = r.feeding;
         let at = fed.at;
-        whole = written(&out[..at]);
+        let running = fed.running;
         g = Feeding {
-            running: fed.running,
+            running,
             held: fed.held,
             at: 0,
         };
         from += r.next;
+        if !written(&out[..at]) {
+            return Turn {
+                feeding: g,
+                on: false,
+                whole: false,
+            };
+        }
     }
     let run = g.running;
     Turn {
         feeding: g,
-        on: whole && run.line <= 100000,
-        whole,
+        on: run.line <= 100000,
+        whole: true,
     }
 }
 
