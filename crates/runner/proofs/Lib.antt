@@ -5,3 +5,5 @@ pub mod Pages
 pub mod Parts
 pub mod Room
 pub mod Steps
+pub mod TwoFacts
+pub mod Values

@@ -1,6 +1,6 @@
 // One line in, one line out: the book is stepped, the tally raised once, and the reply written.
 use crate::step::line_step;
-use crate::tally::raised;
+use crate::tally::one_more;
 use rules::answers::Tally;
 use rules::calls::Line;
 use rules::desk::Desk;
@@ -45,7 +45,7 @@ pub fn answer_line(
     let before = run.tally;
     let found = line_step(run.desk, inbox, outbox, history, out, at, run.line, l);
     let desk = found.desk;
-    let tally = raised(before, found.number);
+    let tally = one_more(before, found.number);
     let running = Running {
         desk,
         tally,

@@ -7,15 +7,15 @@ use Rattle.runner.proofs.running.answer_line.Tie as tie
 use Rattle.runner.proofs.running.answer_line.Reads as reads
 use Rattle.runner.proofs.running.answer_line.Lts as lts
 use Rattle.runner.proofs.step.line_step.Reads as line-step-reads
-use Rattle.runner.proofs.tally.raised.Reads as raised-reads
+use Rattle.runner.proofs.tally.one_more.Reads as one-more-reads
 
 -- src/running.rt:46:9
 line-step-requires : tie.Need-line-step-requires
 line-step-requires c κs = search needs
 
 -- src/running.rt:48:9
-raised-requires : tie.Need-raised-requires
-raised-requires c κs = search needs
+one-more-requires : tie.Need-one-more-requires
+one-more-requires c κs = search needs
 
 -- src/running.rt:52:15
 add-t21 : tie.Need-add-t21
@@ -42,7 +42,7 @@ returns : tie.Need-returns
 returns c =
     let a = c .before .before .before .before .before .before .before .before .before .before .before .before .before .before .before .before .before .before .before .before .before .args in
     let s = c .before .before .before .before .before .before .before .before .before .before .before .line-step in
-    let t = c .before .raised in
+    let t = c .before .one-more in
     let p = page (a .out .now) (a .at) in (
       line-answered (a .run) (a .inbox .now) (a .outbox .now) (a .history .now) (a .l) p (s .result) (s .last .1 .0) (s .last .1 .1 .0) (s .last .1 .1 .1 .0) (s .last .1 .1 .1 .1 .0) (s .ensures) (t .result) (t .ensures),
       (
@@ -56,7 +56,7 @@ answer-line-spec =
     tie.close
     (tie.spec
     line-step-requires
-    raised-requires
+    one-more-requires
     add-t21
     same-length
     same-length-2
