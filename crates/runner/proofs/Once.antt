@@ -51,6 +51,13 @@ line-step-once n p b l = stepped-once (replied n p (answerLine b l))
 pub raised-once : (t : Tally) (n : ℕ) {r r′ : Tally} → r ≡ tallied t n → r′ ≡ tallied t n → r ≡ r′
 raised-once t n = once (tallied t n)
 
+-- ---- counted_step and tallied_step: the same as line_step, and the tally
+pub counted-step-once : (n : ℕ) (p : Page) (b : Book) (l : Line) (t : Tally) (r r′ : Stepped) (i i′ o o′ h h′ out out′ : List ℕ) (u u′ : Tally) → repliedOf r i o h out ≡ replied n p (answerLine b l) → repliedOf r′ i′ o′ h′ out′ ≡ replied n p (answerLine b l)
+    → u ≡ tallied t (r .number) → u′ ≡ tallied t (r′ .number) → (r ≡ r′) × (i ≡ i′) × (o ≡ o′) × (h ≡ h′) × (out ≡ out′) × (u ≡ u′)
+counted-step-once n p b l t r r′ i i′ o o′ h h′ out out′ u u′ e f x y =
+    let s = line-step-once n p b l r r′ i i′ o o′ h h′ out out′ e f in
+    (s .0, s .1, s .2, s .3, s .4, x ∙ ap (λ (q : Stepped). tallied t (q .number)) (s .0) ∙ sym y)
+
 -- ---- answer_line: the desk, tally and line number, every number of the three tables, the place and every byte of the page
 module _ (m : Machine) {r r′ : Running} {i i′ o o′ h h′ held held′ : List ℕ} (e : machineOf r i o h held ≡ m) (f : machineOf r′ i′ o′ h′ held′ ≡ m) where
   same : machineOf r i o h held ≡ machineOf r′ i′ o′ h′ held′

@@ -1,7 +1,7 @@
 // The input byte after byte, however it is cut into reads.
 use crate::running::Running;
 use crate::running::answer_line;
-use crate::tally::raised;
+use crate::tally::one_more;
 use lines::read::read_line;
 use lines::write::put_end;
 use lines::write::put_reply_line;
@@ -148,5 +148,5 @@ pub fn close(f: Feeding, hold: &[u8], out: &mut [u8]) -> usize
     let why = Refusal::Malformed;
     let answer = Answer::Refused(why);
     let p = put_reply_line(out, f.at, run.line, answer);
-    put_end(out, p, raised(t, 1))
+    put_end(out, p, one_more(t, 1))
 }

@@ -1,4 +1,5 @@
 // The book runner: one call after another, line after line.
+pub mod counted;
 pub mod feed;
 pub mod running;
 pub mod start;

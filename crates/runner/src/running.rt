@@ -1,6 +1,5 @@
 // One line in, one line out: the book is stepped, the tally raised once, and the reply written.
-use crate::step::line_step;
-use crate::tally::raised;
+use crate::counted::tallied_step;
 use rules::answers::Tally;
 use rules::calls::Line;
 use rules::desk::Desk;
@@ -43,9 +42,20 @@ pub fn answer_line(
     ensures { λ r. ⌜ Counted (r .running) ⌝ }
 {
     let before = run.tally;
-    let found = line_step(run.desk, inbox, outbox, history, out, at, run.line, l);
-    let desk = found.desk;
-    let tally = raised(before, found.number);
+    let found = tallied_step(
+        run.desk,
+        inbox,
+        outbox,
+        history,
+        out,
+        at,
+        run.line,
+        before,
+        l,
+    );
+    let stepped = found.stepped;
+    let desk = stepped.desk;
+    let tally = found.tally;
     let running = Running {
         desk,
         tally,
@@ -53,6 +63,6 @@ pub fn answer_line(
     };
     Written {
         running,
-        at: found.at,
+        at: stepped.at,
     }
 }

@@ -4,7 +4,7 @@ ghost use Prim.Native.Nat.{_≤_};
 ghost use mathlib.Core.Path.{_≡_};
 ghost use Rattle.rules.specs.Transcript.{tallied};
 
-// The tally with one reply more.
+// The tally with one reply more: all that is added is added here, by value.
 pub fn raised(t: Tally, n: u64) -> Tally
     requires { ⌜ t .done ≤ 100000 ⌝ }
     requires { ⌜ t .other ≤ 100000 ⌝ }
@@ -21,4 +21,24 @@ pub fn raised(t: Tally, n: u64) -> Tally
             other: t.other + 1,
         }
     }
+}
+
+// A lent tally, raised where it lies: once for each reply.
+pub fn raise(t: &mut Tally, n: u64)
+    requires { ⌜ now t .done ≤ 100000 ⌝ }
+    requires { ⌜ now t .other ≤ 100000 ⌝ }
+    ensures { λ _. ⌜ now (t .exit) ≡ tallied (now (t .entry)) n ⌝ }
+{
+    *t = raised(*t, n);
+}
+
+// The same by value, for a caller that has the tally: a copy is lent and given back.
+pub fn one_more(t: Tally, n: u64) -> Tally
+    requires { ⌜ t .done ≤ 100000 ⌝ }
+    requires { ⌜ t .other ≤ 100000 ⌝ }
+    ensures { λ r. ⌜ r ≡ tallied t n ⌝ }
+{
+    let mut u = t;
+    raise(&mut u, n);
+    u
 }

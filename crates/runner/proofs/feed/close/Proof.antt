@@ -10,7 +10,7 @@ use Rattle.runner.proofs.feed.close.Reads as reads
 use Rattle.runner.proofs.feed.close.Lts as lts
 use Rattle.lines.proofs.write.put_end.Reads as put-end-reads
 use Rattle.lines.proofs.write.put_reply_line.Reads as put-reply-line-reads
-use Rattle.runner.proofs.tally.raised.Reads as raised-reads
+use Rattle.runner.proofs.tally.one_more.Reads as one-more-reads
 
 -- src/feed.rt:147:9
 put-end-requires : tie.Need-put-end-requires
@@ -47,8 +47,8 @@ put-reply-line-requires : tie.Need-put-reply-line-requires
 put-reply-line-requires c κs = search needs
 
 -- src/feed.rt:155:21
-raised-requires : tie.Need-raised-requires
-raised-requires c κs =
+one-more-requires : tie.Need-one-more-requires
+one-more-requires c κs =
     let r = c .before .before .before .before .before .before .before .before .before .before .before .before .pre .0 .counted in
     let l = c .before .before .before .before .before .before .if1 .left in
     (omega arith, omega arith)
@@ -66,7 +66,7 @@ returns-3 : tie.Need-returns-3
 unfolding Closes EndsWith
 returns-3 c =
     let a = c .before .before .before .before .before .before .before .before .before .before .before .before .before .before .before .before .args in
-    closed-all (a .f) (a .hold .now) (a .out .now) _ _ (λ i o h. closed-unfinished (a .f .running) i o h (a .hold .now) (page (a .out .now) (a .f .at)) (a .f .held) (c .before .before .before .before .before .before .before .before .before .before .if1 .left) (c .before .before .before .before .before .before .before .before .before .if2 .left) (c .before .before .before .before .before .before .before .before .before .before .before .before .before .before .before .before .pre .0 .size) (c .before .before .before .raised .result) (c .before .before .before .before .before .before .before .put-reply-line .ensures) (c .before .before .before .raised .ensures) (c .before .before .put-end3 .ensures)) (c .before .before .before .before .before .before .before .before .before .before .before .before .before .before .before .before .pre .1)
+    closed-all (a .f) (a .hold .now) (a .out .now) _ _ (λ i o h. closed-unfinished (a .f .running) i o h (a .hold .now) (page (a .out .now) (a .f .at)) (a .f .held) (c .before .before .before .before .before .before .before .before .before .before .if1 .left) (c .before .before .before .before .before .before .before .before .before .if2 .left) (c .before .before .before .before .before .before .before .before .before .before .before .before .before .before .before .before .pre .0 .size) (c .before .before .before .one-more .result) (c .before .before .before .before .before .before .before .put-reply-line .ensures) (c .before .before .before .one-more .ensures) (c .before .before .put-end3 .ensures)) (c .before .before .before .before .before .before .before .before .before .before .before .before .before .before .before .before .pre .1)
 
 pub close-spec : {M : Type 1} → statement M
 close-spec =
@@ -79,7 +79,7 @@ close-spec =
     same-length-2
     returns-2
     put-reply-line-requires
-    raised-requires
+    one-more-requires
     put-end-requires-3
     same-length-3
     returns-3)

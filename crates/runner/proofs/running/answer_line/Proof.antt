@@ -6,48 +6,44 @@ use Rattle.runner.proofs.running.answer_line.Statement.{statement}
 use Rattle.runner.proofs.running.answer_line.Tie as tie
 use Rattle.runner.proofs.running.answer_line.Reads as reads
 use Rattle.runner.proofs.running.answer_line.Lts as lts
-use Rattle.runner.proofs.step.line_step.Reads as line-step-reads
-use Rattle.runner.proofs.tally.raised.Reads as raised-reads
+use Rattle.runner.proofs.counted.tallied_step.Reads as tallied-step-reads
 
--- src/running.rt:46:9
-line-step-requires : tie.Need-line-step-requires
-line-step-requires c κs = search needs
-
--- src/running.rt:48:9
-raised-requires : tie.Need-raised-requires
-raised-requires c κs = search needs
+-- src/running.rt:45:9
+tallied-step-requires : tie.Need-tallied-step-requires
+tallied-step-requires c κs = search needs
 
 -- src/running.rt:52:15
-add-t21 : tie.Need-add-t21
-add-t21 c = omega (arith, c .before .before .before .before .before .before .before .before .before .before .before .before .before .before .before .before .before .before .before .before .before .pre .1)
+add-t22 : tie.Need-add-t22
+add-t22 c = omega (arith, c .before .before .before .before .before .before .before .before .before .before .before .before .before .before .before .before .before .before .before .before .before .before .pre .1)
 
--- src/running.rt:30:1
+-- src/running.rt:29:1
 same-length : tie.Need-same-length
 same-length c = search needs
 
--- src/running.rt:30:1
+-- src/running.rt:29:1
 same-length-2 : tie.Need-same-length-2
 same-length-2 c = search needs
 
--- src/running.rt:30:1
+-- src/running.rt:29:1
 same-length-3 : tie.Need-same-length-3
 same-length-3 c = search needs
 
--- src/running.rt:30:1
+-- src/running.rt:29:1
 same-length-4 : tie.Need-same-length-4
 same-length-4 c = search needs
 
--- src/running.rt:30:1
+-- src/running.rt:29:1
 returns : tie.Need-returns
 returns c =
-    let a = c .before .before .before .before .before .before .before .before .before .before .before .before .before .before .before .before .before .before .before .before .before .args in
-    let s = c .before .before .before .before .before .before .before .before .before .before .before .line-step in
-    let t = c .before .raised in
+    let a = c .before .before .before .before .before .before .before .before .before .before .before .before .before .before .before .before .before .before .before .before .before .before .args in
+    let g = c .before .before .before .before .before .before .before .before .before .before .before .before .before .before .before .before .before .before .before .before .before .before .pre in
+    let t = c .before .before .before .before .before .before .before .before .before .before .before .before .tallied-step in
+    let s = t .result .stepped in
     let p = page (a .out .now) (a .at) in (
-      line-answered (a .run) (a .inbox .now) (a .outbox .now) (a .history .now) (a .l) p (s .result) (s .last .1 .0) (s .last .1 .1 .0) (s .last .1 .1 .1 .0) (s .last .1 .1 .1 .1 .0) (s .ensures) (t .result) (t .ensures),
+      line-answered (a .run) (a .inbox .now) (a .outbox .now) (a .history .now) (a .l) p s (t .last .1 .0) (t .last .1 .1 .0) (t .last .1 .1 .1 .0) (t .last .1 .1 .1 .1 .0) (t .ensures .0) (t .result .tally) (t .ensures .1),
       (
-        line-text (a .run) (a .inbox .now) (a .outbox .now) (a .history .now) (a .l) p (s .result) (s .last .1 .0) (s .last .1 .1 .0) (s .last .1 .1 .1 .0) (s .last .1 .1 .1 .1 .0) (s .ensures) (t .result) (t .ensures),
-        line-counted (a .run) (a .inbox .now) (a .outbox .now) (a .history .now) (a .l) p (s .result) (s .last .1 .0) (s .last .1 .1 .0) (s .last .1 .1 .1 .0) (s .last .1 .1 .1 .1 .0) (s .ensures) (t .result) (t .ensures) (c .before .before .before .before .before .before .before .before .before .before .before .before .before .before .before .before .before .before .before .before .before .pre .0) (c .before .before .before .before .before .before .before .before .before .before .before .before .before .before .before .before .before .before .before .before .before .pre .1),
+        line-text (a .run) (a .inbox .now) (a .outbox .now) (a .history .now) (a .l) p s (t .last .1 .0) (t .last .1 .1 .0) (t .last .1 .1 .1 .0) (t .last .1 .1 .1 .1 .0) (t .ensures .0) (t .result .tally) (t .ensures .1),
+        line-counted (a .run) (a .inbox .now) (a .outbox .now) (a .history .now) (a .l) p s (t .last .1 .0) (t .last .1 .1 .0) (t .last .1 .1 .1 .0) (t .last .1 .1 .1 .1 .0) (t .ensures .0) (t .result .tally) (t .ensures .1) (g .0) (g .1),
       ),
     )
 
@@ -55,9 +51,8 @@ pub answer-line-spec : {M : Type 1} → statement M
 answer-line-spec =
     tie.close
     (tie.spec
-    line-step-requires
-    raised-requires
-    add-t21
+    tallied-step-requires
+    add-t22
     same-length
     same-length-2
     same-length-3
