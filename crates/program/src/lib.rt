@@ -1,5 +1,6 @@
-// The loop over the system calls: a file to standard output, from an empty book. Everything that decides
-// anything is in `runner`, proved on slices.
+// The loop over the system calls: a file to standard output, from an empty book. What is answered and
+// written is decided in `runner`, proved on slices; here stand the order of reads and writes, and when to
+// stop.
 use libc::STDOUT_FILENO;
 use runner::feed::Feeding;
 use runner::feed::close;
@@ -31,8 +32,7 @@ pub fn run(fd: i32) {
     );
 }
 
-// What a turn leaves: whether there is another, and whether all that was sent was read and all that was
-// to be written is written.
+// What a turn leaves: whether there is another, and whether every read and write so far went well.
 struct Turn {
     feeding: Feeding,
     on: bool,

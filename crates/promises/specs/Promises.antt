@@ -1,4 +1,4 @@
--- What is promised, in the order of the demands, from top to bottom. Each promise is said in words and then exactly; the words that it cites are those of the rules (crate rules), of traces (crate lots), and of Demand1, Demand2 and Carried beside this page.
+-- What is promised, in the order of the demands, from top to bottom. Each promise is said in words and then exactly; the words that it cites are those of the rules (crate rules; what an accepted call rests on: its proofs/Facts), of traces (crate lots), of the book runner (crate runner), and of Demand1, Demand2 and Carried beside this page.
 use Prim.Native.Nat.{ℕ, _+_, _/_, _≤_, _<_}
 use mathlib.Core.Path.{_≡_}
 use mathlib.Core.Logic.{_≢_, _↔_}
@@ -68,6 +68,7 @@ pub record Answers (input : List ℕ) : Type 0 where
   pub text : transcript input ≡ replyTexts 1 (answered input) ++ endText (record { done = doneCount (answered input); other = otherCount (answered input) })
   pub oneEach : length (answered input) ≡ length (inputLines input)
   pub tally : doneCount (answered input) + otherCount (answered input) ≡ length (inputLines input)
+  -- by definition: the first 100,000 of the lines into which the input is cut
   pub upTo : inputLines input ≡ take mostLines (linesFrom [] input)
   pub oneLine : (n : ℕ) (o : Outcome) → lineFeeds (replyText n o) ≡ 1
   pub lines : lineFeeds (transcript input) ≡ length (inputLines input) + 1

@@ -25,7 +25,7 @@ pub record Ready (f : Feeding) (hold : List ℕ) : Type 0 where
   pub held : f .held ≤ 121
   pub size : length hold ≡ 121
 
--- the bytes that were held are a beginning of the read, with no line feed among them, up to the next one or to the end
+-- the bytes that were gone through are a beginning of the read, with no line feed among them, up to the next one or to the end
 pub record HeldPart (r : Held) (chunk : List ℕ) : Type 0 where
   pub few : r .held ≤ 121
   pub within : r .next ≤ length chunk

@@ -69,9 +69,10 @@ fn hold_part(hold: &mut [u8], held: usize, chunk: &[u8]) -> Held
     Held { held: n, next: k }
 }
 
-// Feeds a read, line after line, while the output has room for the longest reply: two numbers and
-// 1,024 pieces of 42 bytes are fewer than 45,000. Answers how far it came; what is written is lent on,
-// and the rest of the read is fed with a new page.
+// Feeds a read, line after line, while the output has room for the longest reply: at most six numbers
+// and 1,024 pieces of 42 bytes are fewer than 45,000. After 100,000 lines the rest of a read is passed
+// over. Answers how far it came: what stands on the page is to be given out, and the rest of the read fed
+// with the page begun anew.
 pub fn run_some(
     f: Feeding,
     inbox: &mut [u64],

@@ -27,7 +27,7 @@ pub fn start() -> Feeding
     }
 }
 
-// "An empty book: all zero, but member 1 holds each domain."
+// "All balances, totals and counts 0, last deposit number 0, next nonce 0, and member 1 holding every domain."
 fn empty_desk() -> Desk
     ensures { λ r. ⌜ r ≡ deskOf emptyState ⌝ }
 {
