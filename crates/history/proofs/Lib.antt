@@ -1,9 +1,16 @@
 pub mod KindNumbers
 pub mod Following
 pub mod Counting
-pub mod LotTables
 pub mod Passing
 pub mod Replaying
 pub mod Payments
 pub mod Traced
 pub mod Once
+pub mod Again
+pub mod Loop
+pub mod Table
+pub mod Values
+pub mod LotCalls
+pub mod TakingCalls
+pub mod ReplayCalls
+pub mod TraceCalls

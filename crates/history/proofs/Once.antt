@@ -4,6 +4,7 @@ use mathlib.Core.Path.{_≡_, sym, ap, _∙_}
 use mathlib.Core.Bool.{Bool}
 use mathlib.Core.List.{List}
 use Rattle.rules.specs.declared.rows.Nonce.{Nonce}
+use Rattle.rules.specs.declared.rows.Lot.{Lot}
 use Rattle.rules.specs.declared.answers.Answer.{Answer}
 use Rattle.rules.specs.declared.answers.Origin.{Origin}
 use Rattle.rules.specs.State.{Book}
@@ -19,8 +20,8 @@ history-in-frame-once t n r r′ p q = p ∙ sym q
 pub provenance-once : (b : Book) (m a : ℕ) (r r′ : Origin) → toldOrigin r ≡ provenanceAnswer b m a → toldOrigin r′ ≡ provenanceAnswer b m a → r ≡ r′
 provenance-once b m a r r′ p q = origin-once r r′ (p ∙ sym q)
 
--- the answer, and every number of both lent tables
-pub trace-once : (b : Book) (work pieces : List ℕ) (n : Nonce) (r r′ : Answer) (w w′ p p′ : List ℕ)
+-- the answer, and every row of both lent tables
+pub trace-once : (b : Book) (work pieces : List Lot) (n : Nonce) (r r′ : Answer) (w w′ p p′ : List Lot)
     → traceOutcomeOf r w p ≡ traceAnswer b work pieces n → traceOutcomeOf r′ w′ p′ ≡ traceAnswer b work pieces n → (r ≡ r′) × (w ≡ w′) × (p ≡ p′)
 trace-once b work pieces n r r′ w w′ p p′ e f =
     let g : traceOutcomeOf r w p ≡ traceOutcomeOf r′ w′ p′ = e ∙ sym f in (

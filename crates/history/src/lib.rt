@@ -3,5 +3,7 @@
 pub mod frame;
 pub mod origin;
 mod records;
+mod refusals;
+mod replay;
 pub mod trace;
 mod work;
