@@ -5,5 +5,6 @@ pub mod origin;
 mod records;
 mod refusals;
 mod replay;
+pub mod rows;
 pub mod trace;
 mod work;

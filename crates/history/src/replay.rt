@@ -1,9 +1,9 @@
 // The replay of a history in lots: one record, the records before a payment, and what the payment then
 // takes, as its pieces.
 use crate::records::record_at;
-use crate::work::clear;
+use crate::rows::clear;
+use crate::rows::put_lot;
 use crate::work::join;
-use crate::work::put_lot;
 use crate::work::take_from;
 use rules::rows::DepositNumber;
 use rules::rows::Lot;

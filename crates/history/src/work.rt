@@ -1,12 +1,10 @@
-// The lots of a replay in a lent table, a lot a row: one lot read, one written, a taking from a line,
-// pieces that join the end. Reading and writing are total, so the loops only read a row, ask what
-// becomes of it, and write.
-use rules::rows::DepositNumber;
+// A taking from a line, and pieces that join the end. The loops only read a row, ask what becomes of
+// it, and write.
+use crate::rows::lot_at;
+use crate::rows::put_lot;
 use rules::rows::Lot;
 ghost use mathlib.Core.Path.{_≡_};
 ghost use Prim.Native.Nat.{_+_, _≤_, _<_};
-ghost use lib.ListN.{length, getD, set, replicate};
-ghost use Rattle.rules.specs.Lots.{noLot};
 ghost use Rattle.history.specs.Working.{cutOf, passOf, pass, joinedOn};
 
 // How far a taking from a line is: what is still due, how many rows stay so far, and how many pieces
@@ -22,48 +20,6 @@ pub struct Cut {
     pub piece: Lot,
     pub rest: Lot,
     pub next: Taking,
-}
-
-// The lot in row i; past the end none, so zeros.
-pub fn lot_at(lots: &[Lot], i: usize) -> Lot
-    ensures { λ r. ⌜ r ≡ getD (now (lots .entry)) i noLot ⌝ }
-{
-    if i < lots.len() {
-        lots[i]
-    } else {
-        Lot {
-            member: 0,
-            asset: 0,
-            number: DepositNumber(0),
-            amount: 0,
-        }
-    }
-}
-
-// Writes the lot into row i, if there is one.
-pub fn put_lot(lots: &mut [Lot], i: usize, l: Lot)
-    ensures { λ _. ⌜ now (lots .exit) ≡ set (now (lots .entry)) i l ⌝ }
-{
-    if i < lots.len() {
-        lots[i] = l;
-    }
-}
-
-// Every row of the table becomes zeros.
-pub fn clear(lots: &mut [Lot])
-    ensures { λ _. ⌜ now (lots .exit) ≡ replicate (length (now (lots .entry))) noLot ⌝ }
-{
-    let none = Lot {
-        member: 0,
-        asset: 0,
-        number: DepositNumber(0),
-        amount: 0,
-    };
-    let mut i: usize = 0;
-    while i < lots.len() {
-        put_lot(lots, i, none);
-        i += 1;
-    }
 }
 
 // What becomes of one lot of a taking: "until the amount is met; the last lot is split if need be, its

@@ -1,10 +1,9 @@
 -- What every call answers and leaves, on every book: out of frame comes first, a refusal leaves everything as found, and what is done is laid back into the tables.
-use Prim.Native.Nat.{ℕ, zero, suc, _+_, _-_, _*_, _/_}
-use mathlib.Core.Bool.{Bool, true, not, _&&_, _||_, cond}
+use Prim.Native.Nat.{ℕ, _+_, _-_}
+use mathlib.Core.Bool.{Bool, not, _||_}
 use mathlib.Core.List.{List, [], _∷_, _++_}
 use lib.ListN.{length, drop, replicate}
 use Rattle.rules.specs.Types.{Nonce, Lot, Refusal, Call, Answer, Answered, Origin, Desk}
-use Rattle.rules.specs.Limits.{historyRows}
 use Rattle.rules.specs.State.{State, Book, view, laid, historyOf}
 use Rattle.rules.specs.Replies.{Reply, told, toldOrigin, refuse, smallest, if-done}
 use Rattle.rules.specs.Refusals.{refusals, traceRefusals, badMember, badAsset}
