@@ -14,3 +14,4 @@ pub mod LotCalls
 pub mod TakingCalls
 pub mod ReplayCalls
 pub mod TraceCalls
+pub mod Locals

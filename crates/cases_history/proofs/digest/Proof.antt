@@ -19,8 +19,8 @@ use contract.Monad.{Fun}
 use contract.Running.{givenOf, tables, tablesOf}
 use sound.WpLaws.{WpFn-mono}
 use types.Kit.{Given, Item, ‵, _⊛_, ⋆, atRet, _$_, _∵_, !, qed, by, move, keep, split, join, fsplit, fjoin, suffices, frame, done}
-use types.Part.{whole, sub, look-in}
-use types.Run.{look, store, init, forget, stop, fld, from, load, lit, and-then, no-more, of-opd, bin, assigns, assigns-last, land, returns, exec, first, blocks, loops, again, enter, alloc1, alloc0, params1, pass1, pass0, free1, free0}
+use types.Part.{whole}
+use types.Run.{look, store, init, forget, stop, from, lit, and-then, no-more, of-opd, bin, assigns, assigns-last, land, returns, exec, first, blocks, loops, again, enter, alloc1, alloc0, params1, pass1, pass0, free1, free0}
 use denote.Exit.{yes}
 use denote.RattleType.{owns}
 use denote.Laws.{Is}
@@ -39,7 +39,8 @@ use denote.Triple.Walked.{says, Stays, stay-none-slice, walkOf, Walks, ends-at, 
 use Rattle.rules.specs.declared.rows.Lot.{Lot}
 use Rattle.rules.proofs.rows.Lot as T
 use Rattle.rules.proofs.rows.Lot.Laws as T′
-use Rattle.history.proofs.Loop.{tests, less, less-wf}
+use Rattle.history.proofs.Loop.{tests, below, next-fits, less, less-wf}
+use Rattle.history.proofs.Locals.{local, part}
 use Rattle.history.proofs.Values.{R, at-list, sv, word, refimm, places, cell, spare}
 use Rattle.history.proofs.LotCalls.{LotRead, reads-lot}
 use Rattle.cases_history.proofs.Calls.{Mixed, mixes}
@@ -62,12 +63,6 @@ abbrev stayed : Stays (f.ended .signature .params) (f.ended .kept)
 stayed = (stay-none-slice (0 ∷ []) tt (plain (λ _. T.the-row)) yes, tt)
 
 -- ---- numbers
-below : {i n : ℕ} → n < 2 ^ 64 → i < n → i < 2 ^ 64
-below l h = omega arith
-
-next-fits : {i n : ℕ} → n < 2 ^ 64 → i < n → i + 1 < 2 ^ 64
-next-fits l h = omega arith
-
 small : {s : ℕ} → s < 1000003 → s < 2 ^ 64
 small l = omega arith
 
@@ -123,23 +118,28 @@ module _ {M : Type 1} (𝓤 : URA M) (H : Heap 𝓤) (A : Atoms 𝓤) (W : Given
         split ! $ move ! (2 ∷ []) $ fsplit ! $ keep ! (0 ∷ 2 ∷ []) $ enter ! (𝓣 .C) (𝓣 .Λ) code.function (sv blot olot nlot ∷ []) _ $ alloc1 ! (λ l₀. alloc1 ! (λ l₁. alloc1 ! (λ l₂.
         alloc1 ! (λ l₃. alloc1 ! (λ l₄. alloc1 ! (λ l₅. alloc1 ! (λ l₆. alloc0 ! $ move ! (14 ∷ 15 ∷ []) $ params1 ! $
         pass1 ! (init ! 12 refl (tt, (tt, (record { fits = roomlot .0 }, tt)))) $ pass0 ! $
+        -- [what lots owns; its token; _6; …; and so on to _1; …; room for _0; …]
         assigns ! (of-opd ! (lit ! tt)) (from ! (stop !)) (init ! 10 refl (tt, record { fits = lit< tt })) $
         assigns ! (of-opd ! (lit ! tt)) (from ! (stop !)) (init ! 8 refl (tt, record { fits = lit< tt })) $
         first ! $ blocks ! $ loops ! 𝓣 (less μ) (less-wf μ) (I l₀ l₁ l₂ l₃ l₄ l₅ l₆) (λ t.
-        assigns ! (of-opd ! (load ! (from ! (fld ! refl (stop !))) (look-in ! 12 (sub ! 1 refl (whole !))))) (from ! (stop !)) (init ! 4 refl (tt, record { fits = roomlot .0 })) $
-        assigns ! (bin ! (load ! (from ! (stop !)) (look ! 8 refl)) (load ! (from ! (stop !)) (look ! 4 refl)) tt) (from ! (stop !)) (init ! 2 refl (tt, tt)) $
-        tests ! (load ! (from ! (stop !)) (look ! 2 refl)) (λ yes. let more : t .k < nlot = ltb→lt (t .k) nlot yes in
-        reads-lot ! blot olot nlot lots (t .k) mem run 𝓣 known-get (below (roomlot .0) more) (and-then ! (load ! (from ! (stop !)) (look ! 12 refl)) (and-then ! (load ! (from ! (stop !)) (look ! 8 refl)) (no-more !))) (λ l e isl.
+        assigns ! (of-opd ! (part ! 12 1 refl refl refl)) (from ! (stop !)) (init ! 4 refl (tt, record { fits = roomlot .0 })) $
+        assigns ! (bin ! (local ! 8 refl) (local ! 4 refl) tt) (from ! (stop !)) (init ! 2 refl (tt, tt)) $ tests ! (local ! 2 refl) (λ yes.
+        let more : t .k < nlot = ltb→lt (t .k) nlot yes in
+        -- the row is read
+        reads-lot ! blot olot nlot lots (t .k) mem run 𝓣 known-get (below (roomlot .0) more) (and-then ! (local ! 12 refl) (and-then ! (local ! 8 refl) (no-more !))) (λ l e isl.
         land ! (from ! (stop !)) (init ! 6 refl (LL.lawful T.the-type T′.the-laws 𝓤 H A W .typed l _ isl .0)) $
-        mixes ! (t .sum) l mem run 𝓣 known-mixed (small (t .low)) isl (t .low) (and-then ! (load ! (from ! (stop !)) (look ! 11 refl)) (and-then ! (load ! (from ! (stop !)) (look ! 7 refl)) (no-more !))) (λ s low′ iss.
+        -- and mixed in
+        mixes ! (t .sum) l mem run 𝓣 known-mixed (small (t .low)) isl (t .low) (and-then ! (local ! 11 refl) (and-then ! (local ! 7 refl) (no-more !))) (λ s low′ iss.
         land ! (from ! (stop !)) (store ! 10 refl (tt, record { fits = iss })) $
-        assigns-last ! (bin ! (load ! (from ! (stop !)) (look ! 8 refl)) (lit ! tt) (record { fits = next-fits (roomlot .0) more })) (from ! (stop !)) (store ! 8 refl (tt, record { fits = next-fits (roomlot .0) more })) $
+        assigns-last ! (bin ! (local ! 8 refl) (lit ! tt) (record { fits = next-fits (roomlot .0) more })) (from ! (stop !)) (store ! 8 refl (tt, record { fits = next-fits (roomlot .0) more })) $
         forget ! 6 refl $ forget ! 4 refl $ forget ! 2 refl $ again ! (less μ) (I l₀ l₁ l₂ l₃ l₄ l₅ l₆) t (next t more s low′) (falls t more)))) (λ no.
+        -- the loop is left
         exec ! (𝓣 .C) (𝓣 .Λ) (places codeMir.locals (l₀ ∷ l₁ ∷ l₂ ∷ l₃ ∷ l₄ ∷ l₅ ∷ l₆ ∷ [])) codeMir.t-4 (atRet (places codeMir.locals (l₀ ∷ l₁ ∷ l₂ ∷ l₃ ∷ l₄ ∷ l₅ ∷ l₆ ∷ [])) Post) $
-        assigns ! (of-opd ! (load ! (from ! (stop !)) (look ! 10 refl))) (from ! (stop !)) (init ! 14 refl (tt, record { fits = small (t .low) })) $ returns ! (look ! 14 refl) $
-        forget ! 14 refl $ forget ! 12 refl $ forget ! 10 refl $ forget ! 8 refl $ forget ! 4 refl $ forget ! 2 refl $ move ! (14 ∷ 15 ∷ []) $ free1 ! $ move ! (12 ∷ 13 ∷ []) $ free1 ! $
-        move ! (10 ∷ 11 ∷ []) $ free1 ! $ move ! (8 ∷ 9 ∷ []) $ free1 ! $ move ! (6 ∷ 7 ∷ []) $ free1 ! $ move ! (4 ∷ 5 ∷ []) $ free1 ! $ move ! (2 ∷ 3 ∷ []) $ free1 ! $ free0 ! $
-        by ! (exits (t .sum) (small (t .low)) (t .low)))) start)))))))
+        assigns ! (of-opd ! (local ! 10 refl)) (from ! (stop !)) (init ! 14 refl (tt, record { fits = small (t .low) })) $
+        -- it returns, and its locals are freed
+        returns ! (look ! 14 refl) $ forget ! 14 refl $ forget ! 12 refl $ forget ! 10 refl $ forget ! 8 refl $ forget ! 4 refl $ forget ! 2 refl $ move ! (14 ∷ 15 ∷ []) $ free1 ! $
+        move ! (12 ∷ 13 ∷ []) $ free1 ! $ move ! (10 ∷ 11 ∷ []) $ free1 ! $ move ! (8 ∷ 9 ∷ []) $ free1 ! $ move ! (6 ∷ 7 ∷ []) $ free1 ! $ move ! (4 ∷ 5 ∷ []) $ free1 ! $
+        move ! (2 ∷ 3 ∷ []) $ free1 ! $ free0 ! $ by ! (exits (t .sum) (small (t .low)) (t .low)))) start)))))))
 
 module _ {M : Type 1} (𝓤 : URA M) (H : Heap 𝓤) (A : Atoms 𝓤) (W : Given 𝓤 H A) (mem : Memory → SProp 𝓤) (run : Routine → Fun 𝓤) (𝓣 : Tables 𝓤 H) (known-get : Triple 𝓤 (𝓣 .C #lot-at) (LotRead 𝓤 H A mem run)) (known-mixed : Triple 𝓤 (𝓣 .C #mixed) (Mixed 𝓤 H A mem run)) where
   digest-walks : Walks 𝓤 H A f.ended stayed (WpFn 𝓤 H (𝓣 .C) (𝓣 .Λ) code.function) (f.clauses 𝓤 H A mem run)

@@ -1,7 +1,7 @@
 -- `cases_history::lent` meets its contract: a walk of its MIR, by hand. Two arrays of lots are made in locals, so many rows of each are lent to `traced`, and the arrays are freed (`Calls.antt`). Its parameters are plain, so whoever calls it needs no walk.
 -- Assumes nothing.
 use mathlib.Core.Path.{refl}
-use Prim.Native.Nat.{ℕ, suc, _<_, _≤_, _^_, _-_}
+use Prim.Native.Nat.{ℕ, _<_, _≤_, _^_, _-_}
 use native.Mathlib.Omega.{arith}
 use mathlib.Core.List.{List, [], _∷_}
 use lib.ListN.{length, replicate}
@@ -20,7 +20,7 @@ use contract.Running.{givenOf, tables, tablesOf}
 use sound.WpLaws.{WpFn-mono}
 use types.Kit.{Given, ‵, _⊛_, ⋆, _$_, _∵_, !, qed, by, move, keep, split, join, fsplit, fjoin, suffices, frame, done}
 use types.Part.{agg}
-use types.Run.{look, store, init, forget, stop, from, load, lit, addr, and-then, no-more, assigns, land, returns, enter, alloc1, alloc0, params1, pass1, pass0, free1, free0}
+use types.Run.{look, store, init, forget, stop, from, lit, addr, and-then, no-more, assigns, land, returns, enter, alloc1, alloc0, params1, pass1, pass0, free1, free0}
 use denote.Exit.{yes}
 use denote.RattleType.{owns}
 use denote.Laws.{Is}
@@ -36,11 +36,8 @@ use denote.Triple.Spec.{Meets, tripleOf}
 use denote.Triple.Statement.{Triple}
 use denote.Triple.Table.{entered, cited}
 use denote.Triple.Walked.{says, needs, Stays, stay-none-slice, stay-none, walkOf, Walks, ends-at, walked, goes-none-slice, goes-none, walk-meets}
-use Prim.Native.Nat.{zero}
-use lib.ListN.{length-replicate}
 use types.Part.{rep}
-use denote.Shadow.{shadow}
-use denote.Array.{Array, arrayVal, each, array-lawful}
+use denote.Array.{array-lawful}
 use Rattle.rules.specs.declared.rows.Lot.{Lot}
 use Rattle.rules.specs.declared.rows.Nonce.{Nonce}
 use Rattle.rules.specs.declared.desk.Desk.{Desk}
@@ -52,10 +49,12 @@ use Rattle.rules.proofs.rows.Nonce as Nn
 use Rattle.rules.proofs.rows.Nonce.Laws as Nn′
 use Rattle.rules.proofs.desk.Desk as Dk
 use Rattle.rules.proofs.desk.Desk.Laws as Dk′
-use Rattle.history.proofs.Values.{R, machOf, Numbers, machD, Desks, machK, Nonces, machN, at-list, sv}
+use Rattle.history.proofs.Locals.{local}
+use Rattle.history.proofs.Values.{R, machOf, number-is, lot-is, Desks, machK, Nonces, machN, at-list, sv}
 use Rattle.cases_history.specs.declared.Seen.{Seen}
 use Rattle.cases_history.proofs.Seen as Sn
 use Rattle.cases_history.proofs.Seen.Laws as Sn′
+use Rattle.history.proofs.Table.{table-is}
 use Rattle.cases_history.proofs.Calls.{Seens, machS, Traced, sees}
 use Rattle.cases_history.proofs.traced.Symbol as traced-def
 use Rattle.cases_history.proofs.traced.Symbol.{name as #traced}
@@ -82,18 +81,8 @@ prefix-room l = (omega arith, omega arith)
 abbrev all-of : ℕ → Lot
 all-of k = record { member = k; asset = k; number = record { 0 = k }; amount = k }
 
-number-is : (k : ℕ) → k < 2 ^ 64 → Is Numbers (record { 0 = k }) (machD (record { 0 = k }) ∷ [])
-number-is k fits = LL.owes Dn.the-type Dn′.the-laws (record { 0 = k }) ((refl, fits), tt)
-
-lot-is : (k : ℕ) → k < 2 ^ 64 → Is R (all-of k) (machOf (all-of k) ∷ [])
-lot-is k fits = LL.owes T.the-type T′.the-laws (all-of k) ((refl, fits), ((refl, fits), (((vint w64 k ∷ [], tt), (refl, ((refl, fits), tt))), ((refl, fits), tt))))
-
-all-same : (l : Lot) → Is R l (machOf l ∷ []) → (n : ℕ) → shadow (each Lot (R .own) (replicate n l) (replicate n (machOf l)))
-all-same l is zero = tt
-all-same l is (suc n) = (is, all-same l is n)
-
-table-is : (l : Lot) → Is R l (machOf l ∷ []) → (n : ℕ) → Is (Array R n) (replicate n l) (arrayVal (replicate n (machOf l)) ∷ [])
-table-is l is n = (replicate n (machOf l), ((refl, length-replicate n l), all-same l is n))
+all-is : (k : ℕ) → k < 2 ^ 64 → Is R (all-of k) (machOf (all-of k) ∷ [])
+all-is k fits = lot-is (all-of k) fits fits fits fits
 
 module _ {M : Type 1} (𝓤 : URA M) (H : Heap 𝓤) (A : Atoms 𝓤) (W : Given 𝓤 H A) (mem : Memory → SProp 𝓤) (run : Routine → Fun 𝓤) (κinb : Lft) (κoutb : Lft) (κhist : Lft) (qinb : Share) (qoutb : Share) (qhist : Share) (dk : Desk) (binb oinb : ℕ) (γinb : GName) (inbs : List ℕ) (boutb ooutb : ℕ) (γoutb : GName) (outbs : List ℕ) (bhist ohist : ℕ) (γhist : GName) (hists : List ℕ) (wn : ℕ) (pn : ℕ) (non : Nonce) where
   abbrev ninb : ℕ
@@ -137,25 +126,31 @@ module _ {M : Type 1} (𝓤 : URA M) (H : Heap 𝓤) (A : Atoms 𝓤) (W : Given
         pass1 ! (init ! 30 refl (tt, (tt, (record { fits = roomoutb .0 }, tt)))) $ pass1 ! (init ! 28 refl (tt, (tt, (record { fits = roomhist .0 }, tt)))) $
         pass1 ! (init ! 26 refl (tt, record { fits = iswn })) $ pass1 ! (init ! 24 refl (tt, record { fits = ispn })) $
         pass1 ! (init ! 22 refl (LL.lawful Nn.the-type Nn′.the-laws 𝓤 H A W .typed non _ isnon .0)) $ pass0 ! $
-        assigns ! (agg ! (and-then ! (lit ! tt) (no-more !))) (from ! (stop !)) (init ! 16 refl (LL.lawful Dn.the-type Dn′.the-laws 𝓤 H A W .typed (record { 0 = 7 }) _ (number-is 7 (lit< tt)) .0)) $
-        assigns ! (agg ! (and-then ! (lit ! tt) (and-then ! (lit ! tt) (and-then ! (load ! (from ! (stop !)) (look ! 16 refl)) (and-then ! (lit ! tt) (no-more !)))))) (from ! (stop !)) (init ! 14 refl (LL.lawful T.the-type T′.the-laws 𝓤 H A W .typed (all-of 7) _ (lot-is 7 (lit< tt)) .0)) $
-        assigns ! (rep ! size (load ! (from ! (stop !)) (look ! 14 refl))) (from ! (stop !)) (init ! 20 refl (array-lawful 𝓤 H A W R (LL.lawful T.the-type T′.the-laws 𝓤 H A W) size .typed (replicate size (all-of 7)) _ (table-is (all-of 7) (lot-is 7 (lit< tt)) size) .0)) $
-        assigns ! (agg ! (and-then ! (lit ! tt) (no-more !))) (from ! (stop !)) (store ! 16 refl (LL.lawful Dn.the-type Dn′.the-laws 𝓤 H A W .typed (record { 0 = 9 }) _ (number-is 9 (lit< tt)) .0)) $
-        assigns ! (agg ! (and-then ! (lit ! tt) (and-then ! (lit ! tt) (and-then ! (load ! (from ! (stop !)) (look ! 16 refl)) (and-then ! (lit ! tt) (no-more !)))))) (from ! (stop !)) (store ! 14 refl (LL.lawful T.the-type T′.the-laws 𝓤 H A W .typed (all-of 9) _ (lot-is 9 (lit< tt)) .0)) $
-        assigns ! (rep ! size (load ! (from ! (stop !)) (look ! 14 refl))) (from ! (stop !)) (init ! 18 refl (array-lawful 𝓤 H A W R (LL.lawful T.the-type T′.the-laws 𝓤 H A W) size .typed (replicate size (all-of 9)) _ (table-is (all-of 9) (lot-is 9 (lit< tt)) size) .0)) $
+        -- [what inbox owns; its token; what outbox owns; its token; what history owns; its token; _15; …; and so on to _1; …; room for _0; …]
+        -- two tables are made
+        assigns ! (agg ! (and-then ! (lit ! tt) (no-more !))) (from ! (stop !)) (init ! 16 refl (LL.lawful Dn.the-type Dn′.the-laws 𝓤 H A W .typed (record { 0 = 7 }) _ (number-is (record { 0 = 7 }) (lit< tt)) .0)) $
+        assigns ! (agg ! (and-then ! (lit ! tt) (and-then ! (lit ! tt) (and-then ! (local ! 16 refl) (and-then ! (lit ! tt) (no-more !)))))) (from ! (stop !)) (init ! 14 refl (LL.lawful T.the-type T′.the-laws 𝓤 H A W .typed (all-of 7) _ (all-is 7 (lit< tt)) .0)) $
+        assigns ! (rep ! size (local ! 14 refl)) (from ! (stop !)) (init ! 20 refl (array-lawful 𝓤 H A W R (LL.lawful T.the-type T′.the-laws 𝓤 H A W) size .typed (replicate size (all-of 7)) _ (table-is R (all-of 7) (machOf (all-of 7)) (all-is 7 (lit< tt)) size) .0)) $
+        assigns ! (agg ! (and-then ! (lit ! tt) (no-more !))) (from ! (stop !)) (store ! 16 refl (LL.lawful Dn.the-type Dn′.the-laws 𝓤 H A W .typed (record { 0 = 9 }) _ (number-is (record { 0 = 9 }) (lit< tt)) .0)) $
+        assigns ! (agg ! (and-then ! (lit ! tt) (and-then ! (lit ! tt) (and-then ! (local ! 16 refl) (and-then ! (lit ! tt) (no-more !)))))) (from ! (stop !)) (store ! 14 refl (LL.lawful T.the-type T′.the-laws 𝓤 H A W .typed (all-of 9) _ (all-is 9 (lit< tt)) .0)) $
+        assigns ! (rep ! size (local ! 14 refl)) (from ! (stop !)) (init ! 18 refl (array-lawful 𝓤 H A W R (LL.lawful T.the-type T′.the-laws 𝓤 H A W) size .typed (replicate size (all-of 9)) _ (table-is R (all-of 9) (machOf (all-of 9)) (all-is 9 (lit< tt)) size) .0)) $
         assigns ! (addr ! (from ! (stop !))) (from ! (stop !)) (init ! 12 refl (tt, tt)) $
-        assigns ! (agg ! (and-then ! (load ! (from ! (stop !)) (look ! 12 refl)) (and-then ! (load ! (from ! (stop !)) (look ! 26 refl)) (no-more !)))) (from ! (stop !)) (init ! 10 refl (tt, (tt, (record { fits = iswn }, tt)))) $
+        assigns ! (agg ! (and-then ! (local ! 12 refl) (and-then ! (local ! 26 refl) (no-more !)))) (from ! (stop !)) (init ! 10 refl (tt, (tt, (record { fits = iswn }, tt)))) $
         assigns ! (addr ! (from ! (stop !))) (from ! (stop !)) (init ! 8 refl (tt, tt)) $
-        assigns ! (agg ! (and-then ! (load ! (from ! (stop !)) (look ! 8 refl)) (and-then ! (load ! (from ! (stop !)) (look ! 24 refl)) (no-more !)))) (from ! (stop !)) (init ! 6 refl (tt, (tt, (record { fits = ispn }, tt)))) $
+        assigns ! (agg ! (and-then ! (local ! 8 refl) (and-then ! (local ! 24 refl) (no-more !)))) (from ! (stop !)) (init ! 6 refl (tt, (tt, (record { fits = ispn }, tt)))) $
+        -- and lent
         move ! (0 ∷ 1 ∷ 2 ∷ 3 ∷ 4 ∷ 5 ∷ 20 ∷ 18 ∷ []) $
-        sees ! binb oinb ninb inbs boutb ooutb noutb outbs bhist ohist nhist hists l₈ size wn (all-of 7) l₉ size pn (all-of 9) dk non mem run 𝓣 known-traced (req .0) (prefix-room (req .0)) (lot-is 7 (lit< tt)) (req .1) (prefix-room (req .1)) (lot-is 9 (lit< tt)) isdk isnon (λ ν δ ν′ δ′. (and-then ! (load ! (from ! (stop !)) (look ! 32 refl)) (and-then ! (load ! (from ! (stop !)) (look ! 30 refl)) (and-then ! (load ! (from ! (stop !)) (look ! 28 refl)) (and-then ! (load ! (from ! (stop !)) (look ! 26 refl)) (and-then ! (load ! (from ! (stop !)) (look ! 10 refl)) (and-then ! (load ! (from ! (stop !)) (look ! 6 refl)) (and-then ! (load ! (from ! (stop !)) (look ! 20 refl)) (no-more !))))))))) (λ seen low isseen.
+        sees ! binb oinb ninb inbs boutb ooutb noutb outbs bhist ohist nhist hists l₈ size wn (all-of 7) l₉ size pn (all-of 9) dk non mem run 𝓣 known-traced (req .0) (prefix-room (req .0)) (all-is 7 (lit< tt)) (req .1) (prefix-room (req .1)) (all-is 9 (lit< tt)) isdk isnon (λ ν δ ν′ δ′. (and-then ! (local ! 32 refl) (and-then ! (local ! 30 refl) (and-then ! (local ! 28 refl) (and-then ! (local ! 26 refl) (and-then ! (local ! 10 refl) (and-then ! (local ! 6 refl) (and-then ! (local ! 20 refl) (no-more !))))))))) (λ seen low isseen.
         move ! (0 ∷ 1 ∷ 2 ∷ 3 ∷ 4 ∷ 5 ∷ 8 ∷ 9 ∷ 10 ∷ 11 ∷ 12 ∷ 13 ∷ 14 ∷ 15 ∷ 16 ∷ 17 ∷ 18 ∷ 19 ∷ 7 ∷ 20 ∷ 6 ∷ []) $
-        land ! (from ! (stop !)) (init ! 36 refl (LL.lawful Sn.the-type Sn′.the-laws 𝓤 H A W .typed seen _ isseen .0)) $ returns ! (look ! 36 refl) $ forget ! 36 refl $ forget ! 34 refl $
-        forget ! 32 refl $ forget ! 30 refl $ forget ! 28 refl $ forget ! 26 refl $ forget ! 24 refl $ forget ! 22 refl $ forget ! 16 refl $ forget ! 14 refl $ forget ! 12 refl $
-        forget ! 10 refl $ forget ! 8 refl $ forget ! 6 refl $ move ! (36 ∷ 37 ∷ []) $ free1 ! $ move ! (34 ∷ 35 ∷ []) $ free1 ! $ move ! (32 ∷ 33 ∷ []) $ free1 ! $
-        move ! (30 ∷ 31 ∷ []) $ free1 ! $ move ! (28 ∷ 29 ∷ []) $ free1 ! $ move ! (26 ∷ 27 ∷ []) $ free1 ! $ move ! (24 ∷ 25 ∷ []) $ free1 ! $ move ! (22 ∷ 23 ∷ []) $ free1 ! $
-        move ! (20 ∷ 21 ∷ []) $ free1 ! $ move ! (18 ∷ 19 ∷ []) $ free1 ! $ move ! (16 ∷ 17 ∷ []) $ free1 ! $ move ! (14 ∷ 15 ∷ []) $ free1 ! $ move ! (12 ∷ 13 ∷ []) $ free1 ! $
-        move ! (10 ∷ 11 ∷ []) $ free1 ! $ move ! (8 ∷ 9 ∷ []) $ free1 ! $ move ! (6 ∷ 7 ∷ []) $ free1 ! $ free0 ! $ by ! (exits isdk iswn ispn isnon seen isseen low))))))))))))))))))
+        -- their rooms are back in their places
+        land ! (from ! (stop !)) (init ! 36 refl (LL.lawful Sn.the-type Sn′.the-laws 𝓤 H A W .typed seen _ isseen .0)) $
+        -- it returns, and its locals are freed
+        returns ! (look ! 36 refl) $ forget ! 36 refl $ forget ! 34 refl $ forget ! 32 refl $ forget ! 30 refl $ forget ! 28 refl $ forget ! 26 refl $ forget ! 24 refl $ forget ! 22 refl $
+        forget ! 16 refl $ forget ! 14 refl $ forget ! 12 refl $ forget ! 10 refl $ forget ! 8 refl $ forget ! 6 refl $ move ! (36 ∷ 37 ∷ []) $ free1 ! $ move ! (34 ∷ 35 ∷ []) $ free1 ! $
+        move ! (32 ∷ 33 ∷ []) $ free1 ! $ move ! (30 ∷ 31 ∷ []) $ free1 ! $ move ! (28 ∷ 29 ∷ []) $ free1 ! $ move ! (26 ∷ 27 ∷ []) $ free1 ! $ move ! (24 ∷ 25 ∷ []) $ free1 ! $
+        move ! (22 ∷ 23 ∷ []) $ free1 ! $ move ! (20 ∷ 21 ∷ []) $ free1 ! $ move ! (18 ∷ 19 ∷ []) $ free1 ! $ move ! (16 ∷ 17 ∷ []) $ free1 ! $ move ! (14 ∷ 15 ∷ []) $ free1 ! $
+        move ! (12 ∷ 13 ∷ []) $ free1 ! $ move ! (10 ∷ 11 ∷ []) $ free1 ! $ move ! (8 ∷ 9 ∷ []) $ free1 ! $ move ! (6 ∷ 7 ∷ []) $ free1 ! $ free0 ! $
+        by ! (exits isdk iswn ispn isnon seen isseen low))))))))))))))))))
 
 module _ {M : Type 1} (𝓤 : URA M) (H : Heap 𝓤) (A : Atoms 𝓤) (W : Given 𝓤 H A) (mem : Memory → SProp 𝓤) (run : Routine → Fun 𝓤) (𝓣 : Tables 𝓤 H) (known-traced : Triple 𝓤 (𝓣 .C #traced) (Traced 𝓤 H A mem run)) where
   lent-walks : Walks 𝓤 H A f.ended stayed (WpFn 𝓤 H (𝓣 .C) (𝓣 .Λ) code.function) (f.clauses 𝓤 H A mem run)

@@ -17,8 +17,8 @@ use contract.Monad.{Fun}
 use contract.Running.{givenOf, tables, tablesOf}
 use sound.WpLaws.{WpFn-mono}
 use types.Kit.{Given, ‵, _⊛_, ⋆, _$_, _∵_, !, qed, by, move, keep, split, join, fsplit, fjoin, suffices, frame, done}
-use types.Part.{agg, whole, sub, look-in}
-use types.Run.{look, init, forget, stop, hop, fld, from, load, addr, and-then, no-more, assigns, land, returns, enter, alloc1, alloc0, params1, pass1, pass0, free1, free0}
+use types.Part.{agg}
+use types.Run.{look, init, forget, stop, from, and-then, no-more, assigns, land, returns, enter, alloc1, alloc0, params1, pass1, pass0, free1, free0}
 use denote.Exit.{yes}
 use denote.RattleType.{owns}
 use denote.Laws.{Is}
@@ -45,6 +45,7 @@ use Rattle.rules.proofs.desk.Desk as Dk
 use Rattle.rules.proofs.desk.Desk.Laws as Dk′
 use Rattle.rules.proofs.answers.Answer as An
 use Rattle.rules.proofs.answers.Answer.Laws as An′
+use Rattle.history.proofs.Locals.{local, part, slice-at}
 use Rattle.history.proofs.Values.{R, Desks, machK, Nonces, machN, Answers, machA, at-list, sv}
 use Rattle.cases_history.specs.declared.Seen.{Seen}
 use Rattle.cases_history.proofs.Seen as Sn
@@ -117,24 +118,23 @@ module _ {M : Type 1} (𝓤 : URA M) (H : Heap 𝓤) (A : Atoms 𝓤) (W : Given
         pass1 ! (init ! 42 refl (tt, (tt, (record { fits = roominb .0 }, tt)))) $ pass1 ! (init ! 40 refl (tt, (tt, (record { fits = roomoutb .0 }, tt)))) $
         pass1 ! (init ! 38 refl (tt, (tt, (record { fits = roomhist .0 }, tt)))) $ pass1 ! (init ! 36 refl (tt, (tt, (record { fits = roomwork .0 }, tt)))) $
         pass1 ! (init ! 34 refl (tt, (tt, (record { fits = roomout .0 }, tt)))) $ pass1 ! (init ! 32 refl (LL.lawful Nn.the-type Nn′.the-laws 𝓤 H A W .typed non _ isnon .0)) $ pass0 ! $
-        assigns ! (addr ! (from ! (fld ! refl (hop ! (look-in ! 36 (sub ! 0 refl (whole !))) (stop !))))) (from ! (stop !)) (init ! 24 refl (tt, tt)) $
-        assigns ! (agg ! (and-then ! (load ! (from ! (stop !)) (look ! 24 refl)) (and-then ! (load ! (from ! (fld ! refl (stop !))) (look-in ! 36 (sub ! 1 refl (whole !)))) (no-more !)))) (from ! (stop !)) (init ! 22 refl (tt, (tt, (record { fits = roomwork .0 }, tt)))) $
-        assigns ! (addr ! (from ! (fld ! refl (hop ! (look-in ! 34 (sub ! 0 refl (whole !))) (stop !))))) (from ! (stop !)) (init ! 20 refl (tt, tt)) $
-        assigns ! (agg ! (and-then ! (load ! (from ! (stop !)) (look ! 20 refl)) (and-then ! (load ! (from ! (fld ! refl (stop !))) (look-in ! 34 (sub ! 1 refl (whole !)))) (no-more !)))) (from ! (stop !)) (init ! 18 refl (tt, (tt, (record { fits = roomout .0 }, tt)))) $
-        asks-trace ! binb oinb ninb inbs boutb ooutb noutb outbs bhist ohist nhist hists bwork owork nwork works bout oout nout outs dk non mem run 𝓣 known-trace refl roomwork refl roomout isdk isnon (λ ν δ ν′ δ′. (and-then ! (load ! (from ! (stop !)) (look ! 40 refl)) (and-then ! (load ! (from ! (stop !)) (look ! 38 refl)) (and-then ! (load ! (from ! (stop !)) (look ! 36 refl)) (and-then ! (load ! (from ! (stop !)) (look ! 34 refl)) (and-then ! (load ! (from ! (stop !)) (look ! 18 refl)) (and-then ! (load ! (from ! (stop !)) (look ! 14 refl)) (and-then ! (load ! (from ! (stop !)) (look ! 28 refl)) (no-more !))))))))) (λ reply w′ o′ samew sameo e isreply.
+        -- [what inbox owns; its token; what outbox owns; its token; what history owns; its token; what work owns; its token; what pieces owns; its token; _18; …; and so on to _1; …; room for _0; …]
+        assigns ! (slice-at ! 36 refl refl refl) (from ! (stop !)) (init ! 24 refl (tt, tt)) $
+        assigns ! (agg ! (and-then ! (local ! 24 refl) (and-then ! (part ! 36 1 refl refl refl) (no-more !)))) (from ! (stop !)) (init ! 22 refl (tt, (tt, (record { fits = roomwork .0 }, tt)))) $
+        assigns ! (slice-at ! 34 refl refl refl) (from ! (stop !)) (init ! 20 refl (tt, tt)) $
+        assigns ! (agg ! (and-then ! (local ! 20 refl) (and-then ! (part ! 34 1 refl refl refl) (no-more !)))) (from ! (stop !)) (init ! 18 refl (tt, (tt, (record { fits = roomout .0 }, tt)))) $
+        asks-trace ! binb oinb ninb inbs boutb ooutb noutb outbs bhist ohist nhist hists bwork owork nwork works bout oout nout outs dk non mem run 𝓣 known-trace refl roomwork refl roomout isdk isnon (λ ν δ ν′ δ′. (and-then ! (local ! 40 refl) (and-then ! (local ! 38 refl) (and-then ! (local ! 36 refl) (and-then ! (local ! 34 refl) (and-then ! (local ! 18 refl) (and-then ! (local ! 14 refl) (and-then ! (local ! 28 refl) (no-more !))))))))) (λ reply w′ o′ samew sameo e isreply.
         land ! (from ! (stop !)) (init ! 30 refl (LE.lawful An.the-type An′.the-laws 𝓤 H A W tt .typed reply _ isreply .0)) $
-        assigns ! (addr ! (from ! (fld ! refl (hop ! (look-in ! 36 (sub ! 0 refl (whole !))) (stop !))))) (from ! (stop !)) (init ! 16 refl (tt, tt)) $
-        assigns ! (agg ! (and-then ! (load ! (from ! (stop !)) (look ! 16 refl)) (and-then ! (load ! (from ! (fld ! refl (stop !))) (look-in ! 36 (sub ! 1 refl (whole !)))) (no-more !)))) (from ! (stop !)) (init ! 14 refl (tt, (tt, (record { fits = roomwork .0 }, tt)))) $
-        move ! (6 ∷ 7 ∷ []) $
-        digests ! bwork owork nwork w′ mem run 𝓣 known-digest samew roomwork (λ ν δ. (and-then ! (load ! (from ! (stop !)) (look ! 14 refl)) (no-more !))) (λ one low-one is-one.
-        land ! (from ! (stop !)) (init ! 28 refl (tt, record { fits = is-one })) $
-        assigns ! (addr ! (from ! (fld ! refl (hop ! (look-in ! 34 (sub ! 0 refl (whole !))) (stop !))))) (from ! (stop !)) (init ! 12 refl (tt, tt)) $
-        assigns ! (agg ! (and-then ! (load ! (from ! (stop !)) (look ! 12 refl)) (and-then ! (load ! (from ! (fld ! refl (stop !))) (look-in ! 34 (sub ! 1 refl (whole !)))) (no-more !)))) (from ! (stop !)) (init ! 10 refl (tt, (tt, (record { fits = roomout .0 }, tt)))) $
-        move ! (8 ∷ 9 ∷ []) $
-        digests ! bout oout nout o′ mem run 𝓣 known-digest sameo roomout (λ ν δ. (and-then ! (load ! (from ! (stop !)) (look ! 10 refl)) (no-more !))) (λ two low-two is-two.
+        assigns ! (slice-at ! 36 refl refl refl) (from ! (stop !)) (init ! 16 refl (tt, tt)) $
+        assigns ! (agg ! (and-then ! (local ! 16 refl) (and-then ! (part ! 36 1 refl refl refl) (no-more !)))) (from ! (stop !)) (init ! 14 refl (tt, (tt, (record { fits = roomwork .0 }, tt)))) $
+        move ! (6 ∷ 7 ∷ []) $ digests ! bwork owork nwork w′ mem run 𝓣 known-digest samew roomwork (λ ν δ. (and-then ! (local ! 14 refl) (no-more !))) (λ one low-one is-one.
+        land ! (from ! (stop !)) (init ! 28 refl (tt, record { fits = is-one })) $ assigns ! (slice-at ! 34 refl refl refl) (from ! (stop !)) (init ! 12 refl (tt, tt)) $
+        assigns ! (agg ! (and-then ! (local ! 12 refl) (and-then ! (part ! 34 1 refl refl refl) (no-more !)))) (from ! (stop !)) (init ! 10 refl (tt, (tt, (record { fits = roomout .0 }, tt)))) $
+        move ! (8 ∷ 9 ∷ []) $ digests ! bout oout nout o′ mem run 𝓣 known-digest sameo roomout (λ ν δ. (and-then ! (local ! 10 refl) (no-more !))) (λ two low-two is-two.
         land ! (from ! (stop !)) (init ! 26 refl (tt, record { fits = is-two })) $ move ! (4 ∷ 5 ∷ 6 ∷ 7 ∷ 8 ∷ 9 ∷ 2 ∷ 3 ∷ 0 ∷ 1 ∷ []) $
         let seen : Seen = record { answer = reply; work = one; pieces = two } in let seen-is′ = seen-is reply one two isreply is-one is-two in
-        assigns ! (agg ! (and-then ! (load ! (from ! (stop !)) (look ! 30 refl)) (and-then ! (load ! (from ! (stop !)) (look ! 28 refl)) (and-then ! (load ! (from ! (stop !)) (look ! 26 refl)) (no-more !))))) (from ! (stop !)) (init ! 46 refl (LL.lawful Sn.the-type Sn′.the-laws 𝓤 H A W .typed seen _ seen-is′ .0)) $
+        assigns ! (agg ! (and-then ! (local ! 30 refl) (and-then ! (local ! 28 refl) (and-then ! (local ! 26 refl) (no-more !))))) (from ! (stop !)) (init ! 46 refl (LL.lawful Sn.the-type Sn′.the-laws 𝓤 H A W .typed seen _ seen-is′ .0)) $
+        -- it returns, and its locals are freed
         returns ! (look ! 46 refl) $ forget ! 46 refl $ forget ! 44 refl $ forget ! 42 refl $ forget ! 40 refl $ forget ! 38 refl $ forget ! 36 refl $ forget ! 34 refl $ forget ! 32 refl $
         forget ! 30 refl $ forget ! 28 refl $ forget ! 26 refl $ forget ! 24 refl $ forget ! 22 refl $ forget ! 20 refl $ forget ! 18 refl $ forget ! 16 refl $ forget ! 14 refl $
         forget ! 12 refl $ forget ! 10 refl $ move ! (46 ∷ 47 ∷ []) $ free1 ! $ move ! (44 ∷ 45 ∷ []) $ free1 ! $ move ! (42 ∷ 43 ∷ []) $ free1 ! $ move ! (40 ∷ 41 ∷ []) $ free1 ! $

@@ -18,8 +18,8 @@ use contract.Monad.{Fun}
 use contract.Running.{givenOf, tables, tablesOf}
 use sound.WpLaws.{WpFn-mono}
 use types.Kit.{Given, ‵, _⊛_, ⋆, atRet, _$_, _∵_, !, qed, by, move, keep, split, join, fsplit, fjoin, suffices, frame, done}
-use types.Part.{agg, whole, sub, look-in}
-use types.Run.{look, init, forget, stop, hop, fld, from, load, lit, addr, and-then, no-more, of-opd, bin, assigns, assigns-last, land, returns, exec, first, switches, enter, alloc1, alloc0, params1, pass1, pass0, free1, free0}
+use types.Part.{agg}
+use types.Run.{look, init, forget, stop, from, lit, and-then, no-more, of-opd, bin, assigns, assigns-last, land, returns, exec, first, switches, enter, alloc1, alloc0, params1, pass1, pass0, free1, free0}
 use denote.Exit.{yes}
 use denote.RattleType.{owns}
 use denote.Laws.{Is}
@@ -49,7 +49,8 @@ use Rattle.history.proofs.work.Taking as Tk
 use Rattle.history.proofs.work.Taking.Laws as Tk′
 use Rattle.history.proofs.KindNumbers.{is-claim, is-transfer, is-withdrawal, is-grant, is-other}
 use Rattle.history.proofs.Replaying.{few-after, replays-claim, replays-transfer, replays-withdrawal, replays-grant, replays-other}
-use Rattle.history.proofs.Values.{R, machOf, Numbers, machD, Records, machR, at-list, sv, places}
+use Rattle.history.proofs.Locals.{local, part, slice-at}
+use Rattle.history.proofs.Values.{R, machOf, number-is, lot-is, Records, machR, at-list, sv, places}
 use Rattle.history.proofs.LotCalls.{PutLot, puts-lot}
 use Rattle.history.proofs.TakingCalls.{TakeFrom, takes-from, Join, joins}
 use Rattle.history.proofs.rows.put_lot.Symbol as put-lot-def
@@ -87,13 +88,10 @@ both-fit : (kept taken : ℕ) {used : ℕ} → kept + taken ≤ used + 1 → use
 both-fit kept taken l h = omega arith
 
 -- ---- the lot that a claim puts is one
-number-is : {k : ℕ} → k < 2 ^ 64 → Is Numbers (record { 0 = k }) (machD (record { 0 = k }) ∷ [])
-number-is {k} fits = LL.owes Dn.the-type Dn′.the-laws (record { 0 = k }) ((refl, fits), tt)
-
-lot-is : (r : Record) → Is Records r (machR r ∷ []) → Is R (lotOf r) (machOf (lotOf r) ∷ [])
-lot-is r is =
+claimed-is : (r : Record) → Is Records r (machR r ∷ []) → Is R (lotOf r) (machOf (lotOf r) ∷ [])
+claimed-is r is =
     let of-r = LL.owed Rc.the-type Rc′.the-laws r _ is in
-    LL.owes T.the-type T′.the-laws (lotOf r) ((refl, of-r .1 .1 .1 .0 .1), ((refl, of-r .1 .0 .1), (((vint w64 (r .second) ∷ [], tt), (refl, ((refl, of-r .1 .1 .1 .1 .0 .1), tt))), ((refl, of-r .1 .1 .0 .1), tt))))
+    lot-is (lotOf r) (of-r .1 .1 .1 .0 .1) (of-r .1 .0 .1) (of-r .1 .1 .1 .1 .0 .1) (of-r .1 .1 .0 .1)
 
 module _ {M : Type 1} (𝓤 : URA M) (H : Heap 𝓤) (A : Atoms 𝓤) (W : Given 𝓤 H A) (mem : Memory → SProp 𝓤) (run : Routine → Fun 𝓤) (κwork : Lft) (κheld : Lft) (qwork : Share) (qheld : Share) (bwork owork : ℕ) (γwork : GName) (works : List Lot) (used : ℕ) (bheld oheld : ℕ) (γheld : GName) (helds : List Lot) (rec : Record) where
   abbrev nwork : ℕ
@@ -131,45 +129,48 @@ module _ {M : Type 1} (𝓤 : URA M) (H : Heap 𝓤) (A : Atoms 𝓤) (W : Given
         alloc1 ! (λ l₂₄. alloc1 ! (λ l₂₅. alloc1 ! (λ l₂₆. alloc0 ! $ move ! (54 ∷ 55 ∷ 56 ∷ 57 ∷ []) $ params1 ! $
         pass1 ! (init ! 54 refl (tt, (tt, (record { fits = roomwork .0 }, tt)))) $ pass1 ! (init ! 52 refl (tt, record { fits = isused })) $
         pass1 ! (init ! 50 refl (tt, (tt, (record { fits = roomheld .0 }, tt)))) $ pass1 ! (init ! 48 refl (LL.lawful Rc.the-type Rc′.the-laws 𝓤 H A W .typed rec _ isrec .0)) $ pass0 ! $
-        let of-r = LL.owed Rc.the-type Rc′.the-laws rec _ isrec in
-        assigns ! (of-opd ! (load ! (from ! (fld ! refl (stop !))) (look-in ! 48 (sub ! 0 refl (whole !))))) (from ! (stop !)) (init ! 46 refl (tt, record { fits = of-r .0 .1 })) $
-        first ! $ switches ! (load ! (from ! (stop !)) (look ! 46 refl)) (
+        -- [what work owns; its token; what held owns; its token; _26; …; and so on to _1; …; room for _0; …]
+        let of-r = LL.owed Rc.the-type Rc′.the-laws rec _ isrec in assigns ! (of-opd ! (part ! 48 0 refl refl refl)) (from ! (stop !)) (init ! 46 refl (tt, record { fits = of-r .0 .1 })) $
+        first ! $ switches ! (local ! 46 refl) (
+          -- a claim puts a lot
           (λ one.
-              assigns ! (agg ! (and-then ! (load ! (from ! (fld ! refl (stop !))) (look-in ! 48 (sub ! 4 refl (whole !)))) (no-more !))) (from ! (stop !)) (init ! 44 refl (LL.lawful Dn.the-type Dn′.the-laws 𝓤 H A W .typed (record { 0 = rec .second }) _ (number-is (of-r .1 .1 .1 .1 .0 .1)) .0)) $
-              assigns ! (agg ! (and-then ! (load ! (from ! (fld ! refl (stop !))) (look-in ! 48 (sub ! 3 refl (whole !)))) (and-then ! (load ! (from ! (fld ! refl (stop !))) (look-in ! 48 (sub ! 1 refl (whole !)))) (and-then ! (load ! (from ! (stop !)) (look ! 44 refl)) (and-then ! (load ! (from ! (fld ! refl (stop !))) (look-in ! 48 (sub ! 2 refl (whole !)))) (no-more !)))))) (from ! (stop !)) (init ! 42 refl (LL.lawful T.the-type T′.the-laws 𝓤 H A W .typed (lotOf rec) _ (lot-is rec isrec) .0)) $
-              assigns ! (addr ! (from ! (fld ! refl (hop ! (look-in ! 54 (sub ! 0 refl (whole !))) (stop !))))) (from ! (stop !)) (init ! 32 refl (tt, tt)) $
-              assigns ! (agg ! (and-then ! (load ! (from ! (stop !)) (look ! 32 refl)) (and-then ! (load ! (from ! (fld ! refl (stop !))) (look-in ! 54 (sub ! 1 refl (whole !)))) (no-more !)))) (from ! (stop !)) (init ! 30 refl (tt, (tt, (record { fits = roomwork .0 }, tt)))) $
-              puts-lot ! bwork owork nwork works used (lotOf rec) mem run 𝓣 known-put refl roomwork isused (lot-is rec isrec) (λ ν δ. (and-then ! (load ! (from ! (stop !)) (look ! 30 refl)) (and-then ! (load ! (from ! (stop !)) (look ! 52 refl)) (and-then ! (load ! (from ! (stop !)) (look ! 42 refl)) (no-more !))))) (λ w′ same e.
+              assigns ! (agg ! (and-then ! (part ! 48 4 refl refl refl) (no-more !))) (from ! (stop !)) (init ! 44 refl (LL.lawful Dn.the-type Dn′.the-laws 𝓤 H A W .typed (record { 0 = rec .second }) _ (number-is (record { 0 = rec .second }) (of-r .1 .1 .1 .1 .0 .1)) .0)) $
+              assigns ! (agg ! (and-then ! (part ! 48 3 refl refl refl) (and-then ! (part ! 48 1 refl refl refl) (and-then ! (local ! 44 refl) (and-then ! (part ! 48 2 refl refl refl) (no-more !)))))) (from ! (stop !)) (init ! 42 refl (LL.lawful T.the-type T′.the-laws 𝓤 H A W .typed (lotOf rec) _ (claimed-is rec isrec) .0)) $
+              assigns ! (slice-at ! 54 refl refl refl) (from ! (stop !)) (init ! 32 refl (tt, tt)) $
+              assigns ! (agg ! (and-then ! (local ! 32 refl) (and-then ! (part ! 54 1 refl refl refl) (no-more !)))) (from ! (stop !)) (init ! 30 refl (tt, (tt, (record { fits = roomwork .0 }, tt)))) $
+              puts-lot ! bwork owork nwork works used (lotOf rec) mem run 𝓣 known-put refl roomwork isused (claimed-is rec isrec) (λ ν δ. (and-then ! (local ! 30 refl) (and-then ! (local ! 52 refl) (and-then ! (local ! 42 refl) (no-more !))))) (λ w′ same e.
               land ! (from ! (stop !)) (init ! 34 refl (tt, tt)) $
-              assigns-last ! (bin ! (load ! (from ! (stop !)) (look ! 52 refl)) (lit ! tt) (record { fits = one-more (req .few) })) (from ! (stop !)) (init ! 36 refl (tt, record { fits = one-more (req .few) })) $
+              assigns-last ! (bin ! (local ! 52 refl) (lit ! tt) (record { fits = one-more (req .few) })) (from ! (stop !)) (init ! 36 refl (tt, record { fits = one-more (req .few) })) $
               exec ! (𝓣 .C) (𝓣 .Λ) (places codeMir.locals (l₀ ∷ l₁ ∷ l₂ ∷ l₃ ∷ l₄ ∷ l₅ ∷ l₆ ∷ l₇ ∷ l₈ ∷ l₉ ∷ l₁₀ ∷ l₁₁ ∷ l₁₂ ∷ l₁₃ ∷ l₁₄ ∷ l₁₅ ∷ l₁₆ ∷ l₁₇ ∷ l₁₈ ∷ l₁₉ ∷ l₂₀ ∷ l₂₁ ∷ l₂₂ ∷ l₂₃ ∷ l₂₄ ∷ l₂₅ ∷ l₂₆ ∷ [])) codeMir.t-3 (atRet (places codeMir.locals (l₀ ∷ l₁ ∷ l₂ ∷ l₃ ∷ l₄ ∷ l₅ ∷ l₆ ∷ l₇ ∷ l₈ ∷ l₉ ∷ l₁₀ ∷ l₁₁ ∷ l₁₂ ∷ l₁₃ ∷ l₁₄ ∷ l₁₅ ∷ l₁₆ ∷ l₁₇ ∷ l₁₈ ∷ l₁₉ ∷ l₂₀ ∷ l₂₁ ∷ l₂₂ ∷ l₂₃ ∷ l₂₄ ∷ l₂₅ ∷ l₂₆ ∷ [])) Post) $
-              assigns ! (of-opd ! (load ! (from ! (stop !)) (look ! 36 refl))) (from ! (stop !)) (init ! 56 refl (tt, record { fits = one-more (req .few) })) $ returns ! (look ! 56 refl) $
-              forget ! 56 refl $ forget ! 54 refl $ forget ! 52 refl $ forget ! 50 refl $ forget ! 48 refl $ forget ! 46 refl $ forget ! 44 refl $ forget ! 42 refl $ forget ! 36 refl $
-              forget ! 34 refl $ forget ! 32 refl $ forget ! 30 refl $ move ! (56 ∷ 57 ∷ []) $ free1 ! $ move ! (54 ∷ 55 ∷ []) $ free1 ! $ move ! (52 ∷ 53 ∷ []) $ free1 ! $
+              assigns ! (of-opd ! (local ! 36 refl)) (from ! (stop !)) (init ! 56 refl (tt, record { fits = one-more (req .few) })) $
+              -- it returns, and its locals are freed
+              returns ! (look ! 56 refl) $ forget ! 56 refl $ forget ! 54 refl $ forget ! 52 refl $ forget ! 50 refl $ forget ! 48 refl $ forget ! 46 refl $ forget ! 44 refl $ forget ! 42 refl $
+              forget ! 36 refl $ forget ! 34 refl $ forget ! 32 refl $ forget ! 30 refl $ move ! (56 ∷ 57 ∷ []) $ free1 ! $ move ! (54 ∷ 55 ∷ []) $ free1 ! $ move ! (52 ∷ 53 ∷ []) $ free1 ! $
               move ! (50 ∷ 51 ∷ []) $ free1 ! $ move ! (48 ∷ 49 ∷ []) $ free1 ! $ move ! (46 ∷ 47 ∷ []) $ free1 ! $ move ! (44 ∷ 45 ∷ []) $ free1 ! $ move ! (42 ∷ 43 ∷ []) $ free1 ! $
               move ! (40 ∷ 41 ∷ []) $ free1 ! $ move ! (38 ∷ 39 ∷ []) $ free1 ! $ move ! (36 ∷ 37 ∷ []) $ free1 ! $ move ! (34 ∷ 35 ∷ []) $ free1 ! $ move ! (32 ∷ 33 ∷ []) $ free1 ! $
               move ! (30 ∷ 31 ∷ []) $ free1 ! $ move ! (28 ∷ 29 ∷ []) $ free1 ! $ move ! (26 ∷ 27 ∷ []) $ free1 ! $ move ! (24 ∷ 25 ∷ []) $ free1 ! $ move ! (22 ∷ 23 ∷ []) $ free1 ! $
               move ! (20 ∷ 21 ∷ []) $ free1 ! $ move ! (18 ∷ 19 ∷ []) $ free1 ! $ move ! (16 ∷ 17 ∷ []) $ free1 ! $ move ! (14 ∷ 15 ∷ []) $ free1 ! $ move ! (12 ∷ 13 ∷ []) $ free1 ! $
               move ! (10 ∷ 11 ∷ []) $ free1 ! $ move ! (8 ∷ 9 ∷ []) $ free1 ! $ move ! (6 ∷ 7 ∷ []) $ free1 ! $ move ! (4 ∷ 5 ∷ []) $ free1 ! $ free0 ! $
               by ! (exits isused isrec (used + 1) (one-more (req .few)) w′ same helds refl (replays-claim rec used works helds req (is-claim rec one) w′ e)))),
+          -- of a transfer the pieces join the receiver's line
           (
-            (λ two.
-                assigns ! (addr ! (from ! (fld ! refl (hop ! (look-in ! 54 (sub ! 0 refl (whole !))) (stop !))))) (from ! (stop !)) (init ! 28 refl (tt, tt)) $
-                assigns ! (agg ! (and-then ! (load ! (from ! (stop !)) (look ! 28 refl)) (and-then ! (load ! (from ! (fld ! refl (stop !))) (look-in ! 54 (sub ! 1 refl (whole !)))) (no-more !)))) (from ! (stop !)) (init ! 26 refl (tt, (tt, (record { fits = roomwork .0 }, tt)))) $
-                assigns ! (addr ! (from ! (fld ! refl (hop ! (look-in ! 50 (sub ! 0 refl (whole !))) (stop !))))) (from ! (stop !)) (init ! 24 refl (tt, tt)) $
-                assigns ! (agg ! (and-then ! (load ! (from ! (stop !)) (look ! 24 refl)) (and-then ! (load ! (from ! (fld ! refl (stop !))) (look-in ! 50 (sub ! 1 refl (whole !)))) (no-more !)))) (from ! (stop !)) (init ! 22 refl (tt, (tt, (record { fits = roomheld .0 }, tt)))) $
-                takes-from ! bwork owork nwork works bheld oheld nheld helds used (rec .first) (rec .asset) (rec .amount) mem run 𝓣 known-take refl roomwork refl roomheld isused (of-r .1 .1 .1 .0 .1) (of-r .1 .0 .1) (of-r .1 .1 .0 .1) (few-used (req .few)) (λ ν δ ν′ δ′. (and-then ! (load ! (from ! (stop !)) (look ! 25 refl)) (and-then ! (load ! (from ! (stop !)) (look ! 51 refl)) (and-then ! (load ! (from ! (stop !)) (look ! 21 refl)) (and-then ! (load ! (from ! (fld ! refl (stop !))) (look-in ! 47 (sub ! 3 refl (whole !)))) (and-then ! (load ! (from ! (fld ! refl (stop !))) (look-in ! 47 (sub ! 1 refl (whole !)))) (and-then ! (load ! (from ! (fld ! refl (stop !))) (look-in ! 47 (sub ! 2 refl (whole !)))) (no-more !)))))))) (λ s w′ h′ samew sameh e iss.
+            (λ two. assigns ! (slice-at ! 54 refl refl refl) (from ! (stop !)) (init ! 28 refl (tt, tt)) $
+                assigns ! (agg ! (and-then ! (local ! 28 refl) (and-then ! (part ! 54 1 refl refl refl) (no-more !)))) (from ! (stop !)) (init ! 26 refl (tt, (tt, (record { fits = roomwork .0 }, tt)))) $
+                assigns ! (slice-at ! 50 refl refl refl) (from ! (stop !)) (init ! 24 refl (tt, tt)) $
+                assigns ! (agg ! (and-then ! (local ! 24 refl) (and-then ! (part ! 50 1 refl refl refl) (no-more !)))) (from ! (stop !)) (init ! 22 refl (tt, (tt, (record { fits = roomheld .0 }, tt)))) $
+                takes-from ! bwork owork nwork works bheld oheld nheld helds used (rec .first) (rec .asset) (rec .amount) mem run 𝓣 known-take refl roomwork refl roomheld isused (of-r .1 .1 .1 .0 .1) (of-r .1 .0 .1) (of-r .1 .1 .0 .1) (few-used (req .few)) (λ ν δ ν′ δ′. (and-then ! (local ! 25 refl) (and-then ! (local ! 51 refl) (and-then ! (local ! 21 refl) (and-then ! (part ! 47 3 refl refl refl) (and-then ! (part ! 47 1 refl refl refl) (and-then ! (part ! 47 2 refl refl refl) (no-more !)))))))) (λ s w′ h′ samew sameh e iss.
                 land ! (from ! (stop !)) (init ! 40 refl (LL.lawful Tk.the-type Tk′.the-laws 𝓤 H A W .typed s _ iss .0)) $
                 let of-s = LL.owed Tk.the-type Tk′.the-laws s _ iss in let few : s .kept + s .taken ≤ used + 1 = few-after rec used works helds req s w′ h′ e in
-                assigns ! (addr ! (from ! (fld ! refl (hop ! (look-in ! 54 (sub ! 0 refl (whole !))) (stop !))))) (from ! (stop !)) (init ! 18 refl (tt, tt)) $
-                assigns ! (agg ! (and-then ! (load ! (from ! (stop !)) (look ! 18 refl)) (and-then ! (load ! (from ! (fld ! refl (stop !))) (look-in ! 54 (sub ! 1 refl (whole !)))) (no-more !)))) (from ! (stop !)) (init ! 16 refl (tt, (tt, (record { fits = roomwork .0 }, tt)))) $
-                assigns ! (addr ! (from ! (fld ! refl (hop ! (look-in ! 50 (sub ! 0 refl (whole !))) (stop !))))) (from ! (stop !)) (init ! 14 refl (tt, tt)) $
-                assigns ! (agg ! (and-then ! (load ! (from ! (stop !)) (look ! 14 refl)) (and-then ! (load ! (from ! (fld ! refl (stop !))) (look-in ! 50 (sub ! 1 refl (whole !)))) (no-more !)))) (from ! (stop !)) (init ! 12 refl (tt, (tt, (record { fits = roomheld .0 }, tt)))) $
-                joins ! bwork owork nwork w′ bheld oheld nheld h′ (s .kept) (s .taken) (rec .second) mem run 𝓣 known-join samew roomwork sameh roomheld (of-s .1 .0 .1) (of-s .1 .1 .0 .1) (of-r .1 .1 .1 .1 .0 .1) (both-few (s .kept) (s .taken) few (req .few)) (λ ν δ ν′ δ′. (and-then ! (load ! (from ! (stop !)) (look ! 15 refl)) (and-then ! (load ! (from ! (fld ! refl (stop !))) (look-in ! 39 (sub ! 1 refl (whole !)))) (and-then ! (load ! (from ! (stop !)) (look ! 11 refl)) (and-then ! (load ! (from ! (fld ! refl (stop !))) (look-in ! 39 (sub ! 2 refl (whole !)))) (and-then ! (load ! (from ! (fld ! refl (stop !))) (look-in ! 47 (sub ! 4 refl (whole !)))) (no-more !))))))) (λ w″ same g.
+                assigns ! (slice-at ! 54 refl refl refl) (from ! (stop !)) (init ! 18 refl (tt, tt)) $
+                assigns ! (agg ! (and-then ! (local ! 18 refl) (and-then ! (part ! 54 1 refl refl refl) (no-more !)))) (from ! (stop !)) (init ! 16 refl (tt, (tt, (record { fits = roomwork .0 }, tt)))) $
+                assigns ! (slice-at ! 50 refl refl refl) (from ! (stop !)) (init ! 14 refl (tt, tt)) $
+                assigns ! (agg ! (and-then ! (local ! 14 refl) (and-then ! (part ! 50 1 refl refl refl) (no-more !)))) (from ! (stop !)) (init ! 12 refl (tt, (tt, (record { fits = roomheld .0 }, tt)))) $
+                joins ! bwork owork nwork w′ bheld oheld nheld h′ (s .kept) (s .taken) (rec .second) mem run 𝓣 known-join samew roomwork sameh roomheld (of-s .1 .0 .1) (of-s .1 .1 .0 .1) (of-r .1 .1 .1 .1 .0 .1) (both-few (s .kept) (s .taken) few (req .few)) (λ ν δ ν′ δ′. (and-then ! (local ! 15 refl) (and-then ! (part ! 39 1 refl refl refl) (and-then ! (local ! 11 refl) (and-then ! (part ! 39 2 refl refl refl) (and-then ! (part ! 47 4 refl refl refl) (no-more !))))))) (λ w″ same g.
                 land ! (from ! (stop !)) (init ! 20 refl (tt, tt)) $
-                assigns-last ! (bin ! (load ! (from ! (fld ! refl (stop !))) (look-in ! 40 (sub ! 1 refl (whole !)))) (load ! (from ! (fld ! refl (stop !))) (look-in ! 40 (sub ! 2 refl (whole !)))) (record { fits = both-fit (s .kept) (s .taken) few (req .few) })) (from ! (stop !)) (init ! 36 refl (tt, record { fits = both-fit (s .kept) (s .taken) few (req .few) })) $
+                assigns-last ! (bin ! (part ! 40 1 refl refl refl) (part ! 40 2 refl refl refl) (record { fits = both-fit (s .kept) (s .taken) few (req .few) })) (from ! (stop !)) (init ! 36 refl (tt, record { fits = both-fit (s .kept) (s .taken) few (req .few) })) $
                 exec ! (𝓣 .C) (𝓣 .Λ) (places codeMir.locals (l₀ ∷ l₁ ∷ l₂ ∷ l₃ ∷ l₄ ∷ l₅ ∷ l₆ ∷ l₇ ∷ l₈ ∷ l₉ ∷ l₁₀ ∷ l₁₁ ∷ l₁₂ ∷ l₁₃ ∷ l₁₄ ∷ l₁₅ ∷ l₁₆ ∷ l₁₇ ∷ l₁₈ ∷ l₁₉ ∷ l₂₀ ∷ l₂₁ ∷ l₂₂ ∷ l₂₃ ∷ l₂₄ ∷ l₂₅ ∷ l₂₆ ∷ [])) codeMir.t-3 (atRet (places codeMir.locals (l₀ ∷ l₁ ∷ l₂ ∷ l₃ ∷ l₄ ∷ l₅ ∷ l₆ ∷ l₇ ∷ l₈ ∷ l₉ ∷ l₁₀ ∷ l₁₁ ∷ l₁₂ ∷ l₁₃ ∷ l₁₄ ∷ l₁₅ ∷ l₁₆ ∷ l₁₇ ∷ l₁₈ ∷ l₁₉ ∷ l₂₀ ∷ l₂₁ ∷ l₂₂ ∷ l₂₃ ∷ l₂₄ ∷ l₂₅ ∷ l₂₆ ∷ [])) Post) $
-                assigns ! (of-opd ! (load ! (from ! (stop !)) (look ! 36 refl))) (from ! (stop !)) (init ! 56 refl (tt, record { fits = both-fit (s .kept) (s .taken) few (req .few) })) $
+                assigns ! (of-opd ! (local ! 36 refl)) (from ! (stop !)) (init ! 56 refl (tt, record { fits = both-fit (s .kept) (s .taken) few (req .few) })) $
+                -- it returns, and its locals are freed
                 returns ! (look ! 56 refl) $ forget ! 56 refl $ forget ! 54 refl $ forget ! 52 refl $ forget ! 50 refl $ forget ! 48 refl $ forget ! 46 refl $ forget ! 40 refl $ forget ! 36 refl $
                 forget ! 28 refl $ forget ! 26 refl $ forget ! 24 refl $ forget ! 22 refl $ forget ! 20 refl $ forget ! 18 refl $ forget ! 16 refl $ forget ! 14 refl $ forget ! 12 refl $
                 move ! (56 ∷ 57 ∷ []) $ free1 ! $ move ! (54 ∷ 55 ∷ []) $ free1 ! $ move ! (52 ∷ 53 ∷ []) $ free1 ! $ move ! (50 ∷ 51 ∷ []) $ free1 ! $ move ! (48 ∷ 49 ∷ []) $ free1 ! $
@@ -180,47 +181,53 @@ module _ {M : Type 1} (𝓤 : URA M) (H : Heap 𝓤) (A : Atoms 𝓤) (W : Given
                 move ! (6 ∷ 7 ∷ []) $ free1 ! $ move ! (4 ∷ 5 ∷ []) $ free1 ! $ free0 ! $
                 by ! (exits isused isrec (s .kept + s .taken) (both-fit (s .kept) (s .taken) few (req .few)) w″ (same ∙ samew) h′ sameh (replays-transfer rec used works helds req s w′ h′ e (is-transfer rec two) w″ g))
                 ))),
+            -- a withdrawal's leave
             (
-              (λ three. assigns ! (addr ! (from ! (fld ! refl (hop ! (look-in ! 54 (sub ! 0 refl (whole !))) (stop !))))) (from ! (stop !)) (init ! 10 refl (tt, tt)) $
-                  assigns ! (agg ! (and-then ! (load ! (from ! (stop !)) (look ! 10 refl)) (and-then ! (load ! (from ! (fld ! refl (stop !))) (look-in ! 54 (sub ! 1 refl (whole !)))) (no-more !)))) (from ! (stop !)) (init ! 8 refl (tt, (tt, (record { fits = roomwork .0 }, tt)))) $
-                  assigns ! (addr ! (from ! (fld ! refl (hop ! (look-in ! 50 (sub ! 0 refl (whole !))) (stop !))))) (from ! (stop !)) (init ! 6 refl (tt, tt)) $
-                  assigns ! (agg ! (and-then ! (load ! (from ! (stop !)) (look ! 6 refl)) (and-then ! (load ! (from ! (fld ! refl (stop !))) (look-in ! 50 (sub ! 1 refl (whole !)))) (no-more !)))) (from ! (stop !)) (init ! 4 refl (tt, (tt, (record { fits = roomheld .0 }, tt)))) $
-                  takes-from ! bwork owork nwork works bheld oheld nheld helds used (rec .first) (rec .asset) (rec .amount) mem run 𝓣 known-take refl roomwork refl roomheld isused (of-r .1 .1 .1 .0 .1) (of-r .1 .0 .1) (of-r .1 .1 .0 .1) (few-used (req .few)) (λ ν δ ν′ δ′. (and-then ! (load ! (from ! (stop !)) (look ! 7 refl)) (and-then ! (load ! (from ! (stop !)) (look ! 51 refl)) (and-then ! (load ! (from ! (stop !)) (look ! 3 refl)) (and-then ! (load ! (from ! (fld ! refl (stop !))) (look-in ! 47 (sub ! 3 refl (whole !)))) (and-then ! (load ! (from ! (fld ! refl (stop !))) (look-in ! 47 (sub ! 1 refl (whole !)))) (and-then ! (load ! (from ! (fld ! refl (stop !))) (look-in ! 47 (sub ! 2 refl (whole !)))) (no-more !)))))))) (λ s w′ h′ samew sameh e iss.
+              (λ three. assigns ! (slice-at ! 54 refl refl refl) (from ! (stop !)) (init ! 10 refl (tt, tt)) $
+                  assigns ! (agg ! (and-then ! (local ! 10 refl) (and-then ! (part ! 54 1 refl refl refl) (no-more !)))) (from ! (stop !)) (init ! 8 refl (tt, (tt, (record { fits = roomwork .0 }, tt)))) $
+                  assigns ! (slice-at ! 50 refl refl refl) (from ! (stop !)) (init ! 6 refl (tt, tt)) $
+                  assigns ! (agg ! (and-then ! (local ! 6 refl) (and-then ! (part ! 50 1 refl refl refl) (no-more !)))) (from ! (stop !)) (init ! 4 refl (tt, (tt, (record { fits = roomheld .0 }, tt)))) $
+                  takes-from ! bwork owork nwork works bheld oheld nheld helds used (rec .first) (rec .asset) (rec .amount) mem run 𝓣 known-take refl roomwork refl roomheld isused (of-r .1 .1 .1 .0 .1) (of-r .1 .0 .1) (of-r .1 .1 .0 .1) (few-used (req .few)) (λ ν δ ν′ δ′. (and-then ! (local ! 7 refl) (and-then ! (local ! 51 refl) (and-then ! (local ! 3 refl) (and-then ! (part ! 47 3 refl refl refl) (and-then ! (part ! 47 1 refl refl refl) (and-then ! (part ! 47 2 refl refl refl) (no-more !)))))))) (λ s w′ h′ samew sameh e iss.
                   land ! (from ! (stop !)) (init ! 38 refl (LL.lawful Tk.the-type Tk′.the-laws 𝓤 H A W .typed s _ iss .0)) $
                   let kept-fits : s .kept < 2 ^ 64 = LL.owed Tk.the-type Tk′.the-laws s _ iss .1 .0 .1 in
-                  assigns-last ! (of-opd ! (load ! (from ! (fld ! refl (stop !))) (look-in ! 38 (sub ! 1 refl (whole !))))) (from ! (stop !)) (init ! 36 refl (tt, record { fits = kept-fits })) $
+                  assigns-last ! (of-opd ! (part ! 38 1 refl refl refl)) (from ! (stop !)) (init ! 36 refl (tt, record { fits = kept-fits })) $
                   exec ! (𝓣 .C) (𝓣 .Λ) (places codeMir.locals (l₀ ∷ l₁ ∷ l₂ ∷ l₃ ∷ l₄ ∷ l₅ ∷ l₆ ∷ l₇ ∷ l₈ ∷ l₉ ∷ l₁₀ ∷ l₁₁ ∷ l₁₂ ∷ l₁₃ ∷ l₁₄ ∷ l₁₅ ∷ l₁₆ ∷ l₁₇ ∷ l₁₈ ∷ l₁₉ ∷ l₂₀ ∷ l₂₁ ∷ l₂₂ ∷ l₂₃ ∷ l₂₄ ∷ l₂₅ ∷ l₂₆ ∷ [])) codeMir.t-3 (atRet (places codeMir.locals (l₀ ∷ l₁ ∷ l₂ ∷ l₃ ∷ l₄ ∷ l₅ ∷ l₆ ∷ l₇ ∷ l₈ ∷ l₉ ∷ l₁₀ ∷ l₁₁ ∷ l₁₂ ∷ l₁₃ ∷ l₁₄ ∷ l₁₅ ∷ l₁₆ ∷ l₁₇ ∷ l₁₈ ∷ l₁₉ ∷ l₂₀ ∷ l₂₁ ∷ l₂₂ ∷ l₂₃ ∷ l₂₄ ∷ l₂₅ ∷ l₂₆ ∷ [])) Post) $
-                  assigns ! (of-opd ! (load ! (from ! (stop !)) (look ! 36 refl))) (from ! (stop !)) (init ! 56 refl (tt, record { fits = kept-fits })) $ returns ! (look ! 56 refl) $
-                  forget ! 56 refl $ forget ! 54 refl $ forget ! 52 refl $ forget ! 50 refl $ forget ! 48 refl $ forget ! 46 refl $ forget ! 38 refl $ forget ! 36 refl $ forget ! 10 refl $
-                  forget ! 8 refl $ forget ! 6 refl $ forget ! 4 refl $ move ! (56 ∷ 57 ∷ []) $ free1 ! $ move ! (54 ∷ 55 ∷ []) $ free1 ! $ move ! (52 ∷ 53 ∷ []) $ free1 ! $
+                  assigns ! (of-opd ! (local ! 36 refl)) (from ! (stop !)) (init ! 56 refl (tt, record { fits = kept-fits })) $
+                  -- it returns, and its locals are freed
+                  returns ! (look ! 56 refl) $ forget ! 56 refl $ forget ! 54 refl $ forget ! 52 refl $ forget ! 50 refl $ forget ! 48 refl $ forget ! 46 refl $ forget ! 38 refl $ forget ! 36 refl $
+                  forget ! 10 refl $ forget ! 8 refl $ forget ! 6 refl $ forget ! 4 refl $ move ! (56 ∷ 57 ∷ []) $ free1 ! $ move ! (54 ∷ 55 ∷ []) $ free1 ! $ move ! (52 ∷ 53 ∷ []) $ free1 ! $
                   move ! (50 ∷ 51 ∷ []) $ free1 ! $ move ! (48 ∷ 49 ∷ []) $ free1 ! $ move ! (46 ∷ 47 ∷ []) $ free1 ! $ move ! (44 ∷ 45 ∷ []) $ free1 ! $ move ! (42 ∷ 43 ∷ []) $ free1 ! $
                   move ! (40 ∷ 41 ∷ []) $ free1 ! $ move ! (38 ∷ 39 ∷ []) $ free1 ! $ move ! (36 ∷ 37 ∷ []) $ free1 ! $ move ! (34 ∷ 35 ∷ []) $ free1 ! $ move ! (32 ∷ 33 ∷ []) $ free1 ! $
                   move ! (30 ∷ 31 ∷ []) $ free1 ! $ move ! (28 ∷ 29 ∷ []) $ free1 ! $ move ! (26 ∷ 27 ∷ []) $ free1 ! $ move ! (24 ∷ 25 ∷ []) $ free1 ! $ move ! (22 ∷ 23 ∷ []) $ free1 ! $
                   move ! (20 ∷ 21 ∷ []) $ free1 ! $ move ! (18 ∷ 19 ∷ []) $ free1 ! $ move ! (16 ∷ 17 ∷ []) $ free1 ! $ move ! (14 ∷ 15 ∷ []) $ free1 ! $ move ! (12 ∷ 13 ∷ []) $ free1 ! $
                   move ! (10 ∷ 11 ∷ []) $ free1 ! $ move ! (8 ∷ 9 ∷ []) $ free1 ! $ move ! (6 ∷ 7 ∷ []) $ free1 ! $ move ! (4 ∷ 5 ∷ []) $ free1 ! $ free0 ! $
                   by ! (exits isused isrec (s .kept) (kept-fits) w′ samew h′ sameh (replays-withdrawal rec used works helds req s w′ h′ e (is-withdrawal rec three) w′ refl)))),
+              -- a grant moves none
               (
-                (λ four.
-                    assigns-last ! (of-opd ! (load ! (from ! (stop !)) (look ! 52 refl))) (from ! (stop !)) (init ! 36 refl (tt, record { fits = isused })) $
+                (λ four. assigns-last ! (of-opd ! (local ! 52 refl)) (from ! (stop !)) (init ! 36 refl (tt, record { fits = isused })) $
                     exec ! (𝓣 .C) (𝓣 .Λ) (places codeMir.locals (l₀ ∷ l₁ ∷ l₂ ∷ l₃ ∷ l₄ ∷ l₅ ∷ l₆ ∷ l₇ ∷ l₈ ∷ l₉ ∷ l₁₀ ∷ l₁₁ ∷ l₁₂ ∷ l₁₃ ∷ l₁₄ ∷ l₁₅ ∷ l₁₆ ∷ l₁₇ ∷ l₁₈ ∷ l₁₉ ∷ l₂₀ ∷ l₂₁ ∷ l₂₂ ∷ l₂₃ ∷ l₂₄ ∷ l₂₅ ∷ l₂₆ ∷ [])) codeMir.t-3 (atRet (places codeMir.locals (l₀ ∷ l₁ ∷ l₂ ∷ l₃ ∷ l₄ ∷ l₅ ∷ l₆ ∷ l₇ ∷ l₈ ∷ l₉ ∷ l₁₀ ∷ l₁₁ ∷ l₁₂ ∷ l₁₃ ∷ l₁₄ ∷ l₁₅ ∷ l₁₆ ∷ l₁₇ ∷ l₁₈ ∷ l₁₉ ∷ l₂₀ ∷ l₂₁ ∷ l₂₂ ∷ l₂₃ ∷ l₂₄ ∷ l₂₅ ∷ l₂₆ ∷ [])) Post) $
-                    assigns ! (of-opd ! (load ! (from ! (stop !)) (look ! 36 refl))) (from ! (stop !)) (init ! 56 refl (tt, record { fits = isused })) $ returns ! (look ! 56 refl) $ forget ! 56 refl $
-                    forget ! 54 refl $ forget ! 52 refl $ forget ! 50 refl $ forget ! 48 refl $ forget ! 46 refl $ forget ! 36 refl $ move ! (56 ∷ 57 ∷ []) $ free1 ! $ move ! (54 ∷ 55 ∷ []) $ free1 ! $
-                    move ! (52 ∷ 53 ∷ []) $ free1 ! $ move ! (50 ∷ 51 ∷ []) $ free1 ! $ move ! (48 ∷ 49 ∷ []) $ free1 ! $ move ! (46 ∷ 47 ∷ []) $ free1 ! $ move ! (44 ∷ 45 ∷ []) $ free1 ! $
-                    move ! (42 ∷ 43 ∷ []) $ free1 ! $ move ! (40 ∷ 41 ∷ []) $ free1 ! $ move ! (38 ∷ 39 ∷ []) $ free1 ! $ move ! (36 ∷ 37 ∷ []) $ free1 ! $ move ! (34 ∷ 35 ∷ []) $ free1 ! $
-                    move ! (32 ∷ 33 ∷ []) $ free1 ! $ move ! (30 ∷ 31 ∷ []) $ free1 ! $ move ! (28 ∷ 29 ∷ []) $ free1 ! $ move ! (26 ∷ 27 ∷ []) $ free1 ! $ move ! (24 ∷ 25 ∷ []) $ free1 ! $
-                    move ! (22 ∷ 23 ∷ []) $ free1 ! $ move ! (20 ∷ 21 ∷ []) $ free1 ! $ move ! (18 ∷ 19 ∷ []) $ free1 ! $ move ! (16 ∷ 17 ∷ []) $ free1 ! $ move ! (14 ∷ 15 ∷ []) $ free1 ! $
-                    move ! (12 ∷ 13 ∷ []) $ free1 ! $ move ! (10 ∷ 11 ∷ []) $ free1 ! $ move ! (8 ∷ 9 ∷ []) $ free1 ! $ move ! (6 ∷ 7 ∷ []) $ free1 ! $ move ! (4 ∷ 5 ∷ []) $ free1 ! $ free0 ! $
+                    assigns ! (of-opd ! (local ! 36 refl)) (from ! (stop !)) (init ! 56 refl (tt, record { fits = isused })) $
+                    -- it returns, and its locals are freed
+                    returns ! (look ! 56 refl) $ forget ! 56 refl $ forget ! 54 refl $ forget ! 52 refl $ forget ! 50 refl $ forget ! 48 refl $ forget ! 46 refl $ forget ! 36 refl $
+                    move ! (56 ∷ 57 ∷ []) $ free1 ! $ move ! (54 ∷ 55 ∷ []) $ free1 ! $ move ! (52 ∷ 53 ∷ []) $ free1 ! $ move ! (50 ∷ 51 ∷ []) $ free1 ! $ move ! (48 ∷ 49 ∷ []) $ free1 ! $
+                    move ! (46 ∷ 47 ∷ []) $ free1 ! $ move ! (44 ∷ 45 ∷ []) $ free1 ! $ move ! (42 ∷ 43 ∷ []) $ free1 ! $ move ! (40 ∷ 41 ∷ []) $ free1 ! $ move ! (38 ∷ 39 ∷ []) $ free1 ! $
+                    move ! (36 ∷ 37 ∷ []) $ free1 ! $ move ! (34 ∷ 35 ∷ []) $ free1 ! $ move ! (32 ∷ 33 ∷ []) $ free1 ! $ move ! (30 ∷ 31 ∷ []) $ free1 ! $ move ! (28 ∷ 29 ∷ []) $ free1 ! $
+                    move ! (26 ∷ 27 ∷ []) $ free1 ! $ move ! (24 ∷ 25 ∷ []) $ free1 ! $ move ! (22 ∷ 23 ∷ []) $ free1 ! $ move ! (20 ∷ 21 ∷ []) $ free1 ! $ move ! (18 ∷ 19 ∷ []) $ free1 ! $
+                    move ! (16 ∷ 17 ∷ []) $ free1 ! $ move ! (14 ∷ 15 ∷ []) $ free1 ! $ move ! (12 ∷ 13 ∷ []) $ free1 ! $ move ! (10 ∷ 11 ∷ []) $ free1 ! $ move ! (8 ∷ 9 ∷ []) $ free1 ! $
+                    move ! (6 ∷ 7 ∷ []) $ free1 ! $ move ! (4 ∷ 5 ∷ []) $ free1 ! $ free0 ! $
                     by ! (exits isused isrec (used) (isused) works refl helds refl (replays-grant rec used works helds req (is-grant rec four)))),
-                (λ none.
-                    assigns-last ! (of-opd ! (load ! (from ! (stop !)) (look ! 52 refl))) (from ! (stop !)) (init ! 36 refl (tt, record { fits = isused })) $
+                -- nor does any other
+                (λ none. assigns-last ! (of-opd ! (local ! 52 refl)) (from ! (stop !)) (init ! 36 refl (tt, record { fits = isused })) $
                     exec ! (𝓣 .C) (𝓣 .Λ) (places codeMir.locals (l₀ ∷ l₁ ∷ l₂ ∷ l₃ ∷ l₄ ∷ l₅ ∷ l₆ ∷ l₇ ∷ l₈ ∷ l₉ ∷ l₁₀ ∷ l₁₁ ∷ l₁₂ ∷ l₁₃ ∷ l₁₄ ∷ l₁₅ ∷ l₁₆ ∷ l₁₇ ∷ l₁₈ ∷ l₁₉ ∷ l₂₀ ∷ l₂₁ ∷ l₂₂ ∷ l₂₃ ∷ l₂₄ ∷ l₂₅ ∷ l₂₆ ∷ [])) codeMir.t-3 (atRet (places codeMir.locals (l₀ ∷ l₁ ∷ l₂ ∷ l₃ ∷ l₄ ∷ l₅ ∷ l₆ ∷ l₇ ∷ l₈ ∷ l₉ ∷ l₁₀ ∷ l₁₁ ∷ l₁₂ ∷ l₁₃ ∷ l₁₄ ∷ l₁₅ ∷ l₁₆ ∷ l₁₇ ∷ l₁₈ ∷ l₁₉ ∷ l₂₀ ∷ l₂₁ ∷ l₂₂ ∷ l₂₃ ∷ l₂₄ ∷ l₂₅ ∷ l₂₆ ∷ [])) Post) $
-                    assigns ! (of-opd ! (load ! (from ! (stop !)) (look ! 36 refl))) (from ! (stop !)) (init ! 56 refl (tt, record { fits = isused })) $ returns ! (look ! 56 refl) $ forget ! 56 refl $
-                    forget ! 54 refl $ forget ! 52 refl $ forget ! 50 refl $ forget ! 48 refl $ forget ! 46 refl $ forget ! 36 refl $ move ! (56 ∷ 57 ∷ []) $ free1 ! $ move ! (54 ∷ 55 ∷ []) $ free1 ! $
-                    move ! (52 ∷ 53 ∷ []) $ free1 ! $ move ! (50 ∷ 51 ∷ []) $ free1 ! $ move ! (48 ∷ 49 ∷ []) $ free1 ! $ move ! (46 ∷ 47 ∷ []) $ free1 ! $ move ! (44 ∷ 45 ∷ []) $ free1 ! $
-                    move ! (42 ∷ 43 ∷ []) $ free1 ! $ move ! (40 ∷ 41 ∷ []) $ free1 ! $ move ! (38 ∷ 39 ∷ []) $ free1 ! $ move ! (36 ∷ 37 ∷ []) $ free1 ! $ move ! (34 ∷ 35 ∷ []) $ free1 ! $
-                    move ! (32 ∷ 33 ∷ []) $ free1 ! $ move ! (30 ∷ 31 ∷ []) $ free1 ! $ move ! (28 ∷ 29 ∷ []) $ free1 ! $ move ! (26 ∷ 27 ∷ []) $ free1 ! $ move ! (24 ∷ 25 ∷ []) $ free1 ! $
-                    move ! (22 ∷ 23 ∷ []) $ free1 ! $ move ! (20 ∷ 21 ∷ []) $ free1 ! $ move ! (18 ∷ 19 ∷ []) $ free1 ! $ move ! (16 ∷ 17 ∷ []) $ free1 ! $ move ! (14 ∷ 15 ∷ []) $ free1 ! $
-                    move ! (12 ∷ 13 ∷ []) $ free1 ! $ move ! (10 ∷ 11 ∷ []) $ free1 ! $ move ! (8 ∷ 9 ∷ []) $ free1 ! $ move ! (6 ∷ 7 ∷ []) $ free1 ! $ move ! (4 ∷ 5 ∷ []) $ free1 ! $ free0 ! $
+                    assigns ! (of-opd ! (local ! 36 refl)) (from ! (stop !)) (init ! 56 refl (tt, record { fits = isused })) $
+                    -- it returns, and its locals are freed
+                    returns ! (look ! 56 refl) $ forget ! 56 refl $ forget ! 54 refl $ forget ! 52 refl $ forget ! 50 refl $ forget ! 48 refl $ forget ! 46 refl $ forget ! 36 refl $
+                    move ! (56 ∷ 57 ∷ []) $ free1 ! $ move ! (54 ∷ 55 ∷ []) $ free1 ! $ move ! (52 ∷ 53 ∷ []) $ free1 ! $ move ! (50 ∷ 51 ∷ []) $ free1 ! $ move ! (48 ∷ 49 ∷ []) $ free1 ! $
+                    move ! (46 ∷ 47 ∷ []) $ free1 ! $ move ! (44 ∷ 45 ∷ []) $ free1 ! $ move ! (42 ∷ 43 ∷ []) $ free1 ! $ move ! (40 ∷ 41 ∷ []) $ free1 ! $ move ! (38 ∷ 39 ∷ []) $ free1 ! $
+                    move ! (36 ∷ 37 ∷ []) $ free1 ! $ move ! (34 ∷ 35 ∷ []) $ free1 ! $ move ! (32 ∷ 33 ∷ []) $ free1 ! $ move ! (30 ∷ 31 ∷ []) $ free1 ! $ move ! (28 ∷ 29 ∷ []) $ free1 ! $
+                    move ! (26 ∷ 27 ∷ []) $ free1 ! $ move ! (24 ∷ 25 ∷ []) $ free1 ! $ move ! (22 ∷ 23 ∷ []) $ free1 ! $ move ! (20 ∷ 21 ∷ []) $ free1 ! $ move ! (18 ∷ 19 ∷ []) $ free1 ! $
+                    move ! (16 ∷ 17 ∷ []) $ free1 ! $ move ! (14 ∷ 15 ∷ []) $ free1 ! $ move ! (12 ∷ 13 ∷ []) $ free1 ! $ move ! (10 ∷ 11 ∷ []) $ free1 ! $ move ! (8 ∷ 9 ∷ []) $ free1 ! $
+                    move ! (6 ∷ 7 ∷ []) $ free1 ! $ move ! (4 ∷ 5 ∷ []) $ free1 ! $ free0 ! $
                     by ! (exits isused isrec (used) (isused) works refl helds refl (replays-other rec used works helds req (is-other rec (none .0 .0 .0 .1) (none .0 .0 .1) (none .0 .1) (none .1))))
                     ),
               ),

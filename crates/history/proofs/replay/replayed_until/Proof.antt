@@ -19,8 +19,8 @@ use contract.Monad.{Fun}
 use contract.Running.{givenOf, tables, tablesOf}
 use sound.WpLaws.{WpFn-mono}
 use types.Kit.{Given, Item, ‵, _⊛_, ⋆, atRet, _$_, _∵_, !, qed, by, move, keep, split, join, fsplit, fjoin, suffices, frame, done}
-use types.Part.{agg, whole, sub, look-in}
-use types.Run.{look, store, init, forget, stop, hop, fld, from, load, lit, addr, and-then, no-more, of-opd, bin, assigns, assigns-last, land, returns, exec, first, blocks, loops, again, enter, alloc1, alloc0, params1, pass1, pass0, free1, free0}
+use types.Part.{agg, whole}
+use types.Run.{look, store, init, forget, stop, from, lit, and-then, no-more, of-opd, bin, assigns, assigns-last, land, returns, exec, first, blocks, loops, again, enter, alloc1, alloc0, params1, pass1, pass0, free1, free0}
 use denote.Exit.{yes}
 use denote.RattleType.{owns}
 use denote.Laws.{Is}
@@ -46,7 +46,8 @@ use Rattle.tables.proofs.Rest.{rowAt}
 use Rattle.history.specs.Working.{Replays}
 use Rattle.history.specs.Tracing.{CanReplayAll, ReplaysAll}
 use Rattle.history.proofs.Payments.{replay-none, replay-more, can-replay}
-use Rattle.history.proofs.Loop.{tests, less, less-wf}
+use Rattle.history.proofs.Loop.{tests, below, next-fits, less, less-wf}
+use Rattle.history.proofs.Locals.{local, part, slice-at}
 use Rattle.history.proofs.Values.{R, at-list, sv, word, refmut, refnum, refm, places, cell, spare}
 use Rattle.history.proofs.ReplayCalls.{RecordAt, reads-record, Replayed, replays}
 use Rattle.history.proofs.records.record_at.Symbol as record-at-def
@@ -68,12 +69,6 @@ abbrev stayed : Stays (f.ended .signature .params) (f.ended .kept)
 stayed = (stay-none-slice (0 ∷ []) tt (plain (λ _. u64)) yes, (stay-none (λ _. usize) yes, (stay-slice (1 ∷ []) tt (plain (λ _. T.the-row)), (stay-slice (2 ∷ []) tt (plain (λ _. T.the-row)), tt))))
 
 -- ---- numbers
-below : {i n : ℕ} → n < 2 ^ 64 → i < n → i < 2 ^ 64
-below l h = omega arith
-
-next-fits : {i n : ℕ} → n < 2 ^ 64 → i < n → i + 1 < 2 ^ 64
-next-fits l h = omega arith
-
 lies : {i n : ℕ} (size : ℕ) → n * 5 ≤ size → i < n → i * 5 + 5 ≤ size
 lies size l h = omega arith
 
@@ -162,29 +157,34 @@ module _ {M : Type 1} (𝓤 : URA M) (H : Heap 𝓤) (A : Atoms 𝓤) (W : Given
         alloc1 ! (λ l₁₁. alloc1 ! (λ l₁₂. alloc0 ! $ move ! (26 ∷ 27 ∷ 28 ∷ 29 ∷ 30 ∷ 31 ∷ []) $ params1 ! $ pass1 ! (init ! 28 refl (tt, (tt, (record { fits = roomhist .0 }, tt)))) $
         pass1 ! (init ! 26 refl (tt, record { fits = isupto })) $ pass1 ! (init ! 24 refl (tt, (tt, (record { fits = roomwork .0 }, tt)))) $
         pass1 ! (init ! 22 refl (tt, (tt, (record { fits = roomheld .0 }, tt)))) $ pass0 ! $
+        -- [what history owns; its token; what work owns; its token; what held owns; its token; _12; …; and so on to _1; …; room for _0; …]
         assigns ! (of-opd ! (lit ! tt)) (from ! (stop !)) (init ! 20 refl (tt, record { fits = lit< tt })) $
         assigns ! (of-opd ! (lit ! tt)) (from ! (stop !)) (init ! 18 refl (tt, record { fits = lit< tt })) $
         first ! $ blocks ! $ loops ! 𝓣 (less μ) (less-wf μ) (I l₀ l₁ l₂ l₃ l₄ l₅ l₆ l₇ l₈ l₉ l₁₀ l₁₁ l₁₂) (λ t.
-        assigns ! (bin ! (load ! (from ! (stop !)) (look ! 18 refl)) (load ! (from ! (stop !)) (look ! 26 refl)) tt) (from ! (stop !)) (init ! 14 refl (tt, tt)) $
-        tests ! (load ! (from ! (stop !)) (look ! 14 refl)) (λ yes. let more : t .i < upto = ltb→lt (t .i) upto yes in
-        reads-record ! bhist ohist nhist hists (t .i) mem run 𝓣 known-record (below isupto more) (lies (length hists) (req .lie) more) (and-then ! (load ! (from ! (stop !)) (look ! 28 refl)) (and-then ! (load ! (from ! (stop !)) (look ! 18 refl)) (no-more !))) (λ r e isr.
+        assigns ! (bin ! (local ! 18 refl) (local ! 26 refl) tt) (from ! (stop !)) (init ! 14 refl (tt, tt)) $ tests ! (local ! 14 refl) (λ yes.
+        let more : t .i < upto = ltb→lt (t .i) upto yes in
+        -- the record is read
+        reads-record ! bhist ohist nhist hists (t .i) mem run 𝓣 known-record (below isupto more) (lies (length hists) (req .lie) more) (and-then ! (local ! 28 refl) (and-then ! (local ! 18 refl) (no-more !))) (λ r e isr.
         land ! (from ! (stop !)) (init ! 16 refl (LL.lawful Rc.the-type Rc′.the-laws 𝓤 H A W .typed r _ isr .0)) $
-        assigns ! (addr ! (from ! (fld ! refl (hop ! (look-in ! 24 (sub ! 0 refl (whole !))) (stop !))))) (from ! (stop !)) (init ! 12 refl (tt, tt)) $
-        assigns ! (agg ! (and-then ! (load ! (from ! (stop !)) (look ! 12 refl)) (and-then ! (load ! (from ! (fld ! refl (stop !))) (look-in ! 24 (sub ! 1 refl (whole !)))) (no-more !)))) (from ! (stop !)) (init ! 10 refl (tt, (tt, (record { fits = roomwork .0 }, tt)))) $
-        assigns ! (addr ! (from ! (fld ! refl (hop ! (look-in ! 22 (sub ! 0 refl (whole !))) (stop !))))) (from ! (stop !)) (init ! 8 refl (tt, tt)) $
-        assigns ! (agg ! (and-then ! (load ! (from ! (stop !)) (look ! 8 refl)) (and-then ! (load ! (from ! (fld ! refl (stop !))) (look-in ! 22 (sub ! 1 refl (whole !)))) (no-more !)))) (from ! (stop !)) (init ! 6 refl (tt, (tt, (record { fits = roomheld .0 }, tt)))) $
+        -- and replayed
+        assigns ! (slice-at ! 24 refl refl refl) (from ! (stop !)) (init ! 12 refl (tt, tt)) $
+        assigns ! (agg ! (and-then ! (local ! 12 refl) (and-then ! (part ! 24 1 refl refl refl) (no-more !)))) (from ! (stop !)) (init ! 10 refl (tt, (tt, (record { fits = roomwork .0 }, tt)))) $
+        assigns ! (slice-at ! 22 refl refl refl) (from ! (stop !)) (init ! 8 refl (tt, tt)) $
+        assigns ! (agg ! (and-then ! (local ! 8 refl) (and-then ! (part ! 22 1 refl refl refl) (no-more !)))) (from ! (stop !)) (init ! 6 refl (tt, (tt, (record { fits = roomheld .0 }, tt)))) $
         move ! (2 ∷ 3 ∷ 4 ∷ 5 ∷ []) $
-        replays ! bwork owork nwork (t .ws) bheld oheld nheld (t .hs) (t .used) r mem run 𝓣 known-replayed (t .lenw) roomwork (t .lenh) roomheld (t .fits) isr (can-replay hists works helds upto (t .i) (t .used) (t .ws) (t .hs) req more (t .lenw) (t .lenh) (t .so-far)) (λ ν δ ν′ δ′. (and-then ! (load ! (from ! (stop !)) (look ! 9 refl)) (and-then ! (load ! (from ! (stop !)) (look ! 19 refl)) (and-then ! (load ! (from ! (stop !)) (look ! 5 refl)) (and-then ! (load ! (from ! (stop !)) (look ! 15 refl)) (no-more !)))))) (λ u w′ h′ samew sameh g isu.
+        replays ! bwork owork nwork (t .ws) bheld oheld nheld (t .hs) (t .used) r mem run 𝓣 known-replayed (t .lenw) roomwork (t .lenh) roomheld (t .fits) isr (can-replay hists works helds upto (t .i) (t .used) (t .ws) (t .hs) req more (t .lenw) (t .lenh) (t .so-far)) (λ ν δ ν′ δ′. (and-then ! (local ! 9 refl) (and-then ! (local ! 19 refl) (and-then ! (local ! 5 refl) (and-then ! (local ! 15 refl) (no-more !)))))) (λ u w′ h′ samew sameh g isu.
         land ! (from ! (stop !)) (store ! 20 refl (tt, record { fits = isu })) $ move ! (4 ∷ 5 ∷ 0 ∷ 1 ∷ 2 ∷ 3 ∷ []) $
-        assigns-last ! (bin ! (load ! (from ! (stop !)) (look ! 18 refl)) (lit ! tt) (record { fits = next-fits isupto more })) (from ! (stop !)) (store ! 18 refl (tt, record { fits = next-fits isupto more })) $
+        assigns-last ! (bin ! (local ! 18 refl) (lit ! tt) (record { fits = next-fits isupto more })) (from ! (stop !)) (store ! 18 refl (tt, record { fits = next-fits isupto more })) $
         forget ! 16 refl $ forget ! 14 refl $ forget ! 12 refl $ forget ! 10 refl $ forget ! 8 refl $ forget ! 6 refl $
         again ! (less μ) (I l₀ l₁ l₂ l₃ l₄ l₅ l₆ l₇ l₈ l₉ l₁₀ l₁₁ l₁₂) t (next t more r e u w′ h′ samew sameh g isu) (falls t more)))) (λ no.
+        -- the loop is left
         exec ! (𝓣 .C) (𝓣 .Λ) (places codeMir.locals (l₀ ∷ l₁ ∷ l₂ ∷ l₃ ∷ l₄ ∷ l₅ ∷ l₆ ∷ l₇ ∷ l₈ ∷ l₉ ∷ l₁₀ ∷ l₁₁ ∷ l₁₂ ∷ [])) codeMir.t-4 (atRet (places codeMir.locals (l₀ ∷ l₁ ∷ l₂ ∷ l₃ ∷ l₄ ∷ l₅ ∷ l₆ ∷ l₇ ∷ l₈ ∷ l₉ ∷ l₁₀ ∷ l₁₁ ∷ l₁₂ ∷ [])) Post) $
-        assigns ! (of-opd ! (load ! (from ! (stop !)) (look ! 20 refl))) (from ! (stop !)) (init ! 30 refl (tt, record { fits = t .fits })) $ returns ! (look ! 30 refl) $ forget ! 30 refl $
-        forget ! 28 refl $ forget ! 26 refl $ forget ! 24 refl $ forget ! 22 refl $ forget ! 20 refl $ forget ! 18 refl $ forget ! 14 refl $ move ! (30 ∷ 31 ∷ []) $ free1 ! $
-        move ! (28 ∷ 29 ∷ []) $ free1 ! $ move ! (26 ∷ 27 ∷ []) $ free1 ! $ move ! (24 ∷ 25 ∷ []) $ free1 ! $ move ! (22 ∷ 23 ∷ []) $ free1 ! $ move ! (20 ∷ 21 ∷ []) $ free1 ! $
-        move ! (18 ∷ 19 ∷ []) $ free1 ! $ move ! (16 ∷ 17 ∷ []) $ free1 ! $ move ! (14 ∷ 15 ∷ []) $ free1 ! $ move ! (12 ∷ 13 ∷ []) $ free1 ! $ move ! (10 ∷ 11 ∷ []) $ free1 ! $
-        move ! (8 ∷ 9 ∷ []) $ free1 ! $ move ! (6 ∷ 7 ∷ []) $ free1 ! $ free0 ! $
+        assigns ! (of-opd ! (local ! 20 refl)) (from ! (stop !)) (init ! 30 refl (tt, record { fits = t .fits })) $
+        -- it returns, and its locals are freed
+        returns ! (look ! 30 refl) $ forget ! 30 refl $ forget ! 28 refl $ forget ! 26 refl $ forget ! 24 refl $ forget ! 22 refl $ forget ! 20 refl $ forget ! 18 refl $ forget ! 14 refl $
+        move ! (30 ∷ 31 ∷ []) $ free1 ! $ move ! (28 ∷ 29 ∷ []) $ free1 ! $ move ! (26 ∷ 27 ∷ []) $ free1 ! $ move ! (24 ∷ 25 ∷ []) $ free1 ! $ move ! (22 ∷ 23 ∷ []) $ free1 ! $
+        move ! (20 ∷ 21 ∷ []) $ free1 ! $ move ! (18 ∷ 19 ∷ []) $ free1 ! $ move ! (16 ∷ 17 ∷ []) $ free1 ! $ move ! (14 ∷ 15 ∷ []) $ free1 ! $ move ! (12 ∷ 13 ∷ []) $ free1 ! $
+        move ! (10 ∷ 11 ∷ []) $ free1 ! $ move ! (8 ∷ 9 ∷ []) $ free1 ! $ move ! (6 ∷ 7 ∷ []) $ free1 ! $ free0 ! $
         by ! (exits isupto (t .used) (t .fits) (t .ws) (t .lenw) (t .hs) (t .lenh) (ended-at t (nltb→le (t .i) upto no))))) (start works helds))))))))))))))
 
 module _ {M : Type 1} (𝓤 : URA M) (H : Heap 𝓤) (A : Atoms 𝓤) (W : Given 𝓤 H A) (mem : Memory → SProp 𝓤) (run : Routine → Fun 𝓤) (𝓣 : Tables 𝓤 H) (known-record : Triple 𝓤 (𝓣 .C #record-at) (RecordAt 𝓤 H A mem run)) (known-replayed : Triple 𝓤 (𝓣 .C #replayed) (Replayed 𝓤 H A mem run)) where

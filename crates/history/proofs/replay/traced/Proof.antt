@@ -18,8 +18,8 @@ use contract.Monad.{Fun}
 use contract.Running.{givenOf, tables, tablesOf}
 use sound.WpLaws.{WpFn-mono}
 use types.Kit.{Given, ‵, _⊛_, ⋆, _$_, _∵_, !, qed, by, move, keep, split, join, fsplit, fjoin, suffices, frame, done}
-use types.Part.{agg, whole, sub, look-in}
-use types.Run.{look, store, init, forget, stop, hop, fld, from, load, lit, addr, and-then, no-more, of-opd, assigns, land, returns, first, enter, alloc1, alloc0, params1, pass1, pass0, free1, free0}
+use types.Part.{agg}
+use types.Run.{look, store, init, forget, stop, from, lit, and-then, no-more, of-opd, assigns, land, returns, first, enter, alloc1, alloc0, params1, pass1, pass0, free1, free0}
 use denote.Exit.{yes}
 use denote.RattleType.{owns}
 use denote.Laws.{Is}
@@ -43,6 +43,7 @@ use Rattle.history.specs.Tracing.{CanTrace, Traces}
 use Rattle.history.proofs.work.Taking as Tk
 use Rattle.history.proofs.work.Taking.Laws as Tk′
 use Rattle.history.proofs.Traced.{can-replay-all, record-there, few-used, pieces-fit, traces}
+use Rattle.history.proofs.Locals.{local, part, slice-at}
 use Rattle.history.proofs.Values.{R, at-list, sv}
 use Rattle.history.proofs.TakingCalls.{TakeFrom, takes-from, Join, joins, Clear, clears}
 use Rattle.history.proofs.ReplayCalls.{RecordAt, reads-record, PaymentAt, finds-payment, ReplayedUntil, replays-until}
@@ -119,39 +120,41 @@ module _ {M : Type 1} (𝓤 : URA M) (H : Heap 𝓤) (A : Atoms 𝓤) (W : Given
         pass1 ! (init ! 56 refl (tt, (tt, (record { fits = roomhist .0 }, tt)))) $ pass1 ! (init ! 54 refl (tt, record { fits = isrecords })) $
         pass1 ! (init ! 52 refl (tt, record { fits = isn })) $ pass1 ! (init ! 50 refl (tt, (tt, (record { fits = roomwork .0 }, tt)))) $
         pass1 ! (init ! 48 refl (tt, (tt, (record { fits = roomheld .0 }, tt)))) $ pass1 ! (init ! 46 refl (tt, (tt, (record { fits = roomout .0 }, tt)))) $ pass0 ! $
+        -- [what history owns; its token; what work owns; its token; what held owns; its token; what pieces owns; its token; _25; …; and so on to _1; …; room for _0; …]
         -- the payment is found
-
-        finds-payment ! bhist ohist nhist hists records n mem run 𝓣 known-payment isrecords isn (req .lie) (and-then ! (load ! (from ! (stop !)) (look ! 56 refl)) (and-then ! (load ! (from ! (stop !)) (look ! 54 refl)) (and-then ! (load ! (from ! (stop !)) (look ! 52 refl)) (no-more !)))) (λ place found isplace.
-        land ! (from ! (stop !)) (init ! 44 refl (tt, record { fits = isplace })) $  -- the records before it are replayed
-        assigns ! (addr ! (from ! (fld ! refl (hop ! (look-in ! 50 (sub ! 0 refl (whole !))) (stop !))))) (from ! (stop !)) (init ! 36 refl (tt, tt)) $
-        assigns ! (agg ! (and-then ! (load ! (from ! (stop !)) (look ! 36 refl)) (and-then ! (load ! (from ! (fld ! refl (stop !))) (look-in ! 50 (sub ! 1 refl (whole !)))) (no-more !)))) (from ! (stop !)) (init ! 34 refl (tt, (tt, (record { fits = roomwork .0 }, tt)))) $
-        assigns ! (addr ! (from ! (fld ! refl (hop ! (look-in ! 48 (sub ! 0 refl (whole !))) (stop !))))) (from ! (stop !)) (init ! 32 refl (tt, tt)) $
-        assigns ! (agg ! (and-then ! (load ! (from ! (stop !)) (look ! 32 refl)) (and-then ! (load ! (from ! (fld ! refl (stop !))) (look-in ! 48 (sub ! 1 refl (whole !)))) (no-more !)))) (from ! (stop !)) (init ! 30 refl (tt, (tt, (record { fits = roomheld .0 }, tt)))) $
-        replays-until ! bhist ohist nhist hists bwork owork nwork works bheld oheld nheld helds place mem run 𝓣 known-until refl roomwork refl roomheld isplace (can-replay-all hists records n works helds outs req place found) (λ ν δ ν′ δ′. (and-then ! (load ! (from ! (stop !)) (look ! 54 refl)) (and-then ! (load ! (from ! (stop !)) (look ! 42 refl)) (and-then ! (load ! (from ! (stop !)) (look ! 32 refl)) (and-then ! (load ! (from ! (stop !)) (look ! 28 refl)) (no-more !)))))) (λ used w₁ h₁ wide long all isused.
-        land ! (from ! (stop !)) (init ! 42 refl (tt, record { fits = isused })) $  -- what it takes is taken
-        reads-record ! bhist ohist nhist hists place mem run 𝓣 known-record isplace (record-there hists records n works helds outs req place found) (and-then ! (load ! (from ! (stop !)) (look ! 56 refl)) (and-then ! (load ! (from ! (stop !)) (look ! 44 refl)) (no-more !))) (λ rec e isrec.
+        finds-payment ! bhist ohist nhist hists records n mem run 𝓣 known-payment isrecords isn (req .lie) (and-then ! (local ! 56 refl) (and-then ! (local ! 54 refl) (and-then ! (local ! 52 refl) (no-more !)))) (λ place found isplace.
+        land ! (from ! (stop !)) (init ! 44 refl (tt, record { fits = isplace })) $
+        -- the records before it are replayed
+        assigns ! (slice-at ! 50 refl refl refl) (from ! (stop !)) (init ! 36 refl (tt, tt)) $
+        assigns ! (agg ! (and-then ! (local ! 36 refl) (and-then ! (part ! 50 1 refl refl refl) (no-more !)))) (from ! (stop !)) (init ! 34 refl (tt, (tt, (record { fits = roomwork .0 }, tt)))) $
+        assigns ! (slice-at ! 48 refl refl refl) (from ! (stop !)) (init ! 32 refl (tt, tt)) $
+        assigns ! (agg ! (and-then ! (local ! 32 refl) (and-then ! (part ! 48 1 refl refl refl) (no-more !)))) (from ! (stop !)) (init ! 30 refl (tt, (tt, (record { fits = roomheld .0 }, tt)))) $
+        replays-until ! bhist ohist nhist hists bwork owork nwork works bheld oheld nheld helds place mem run 𝓣 known-until refl roomwork refl roomheld isplace (can-replay-all hists records n works helds outs req place found) (λ ν δ ν′ δ′. (and-then ! (local ! 54 refl) (and-then ! (local ! 42 refl) (and-then ! (local ! 32 refl) (and-then ! (local ! 28 refl) (no-more !)))))) (λ used w₁ h₁ wide long all isused.
+        land ! (from ! (stop !)) (init ! 42 refl (tt, record { fits = isused })) $
+        -- what it takes is taken
+        reads-record ! bhist ohist nhist hists place mem run 𝓣 known-record isplace (record-there hists records n works helds outs req place found) (and-then ! (local ! 56 refl) (and-then ! (local ! 44 refl) (no-more !))) (λ rec e isrec.
         land ! (from ! (stop !)) (init ! 40 refl (LL.lawful Rc.the-type Rc′.the-laws 𝓤 H A W .typed rec _ isrec .0)) $ let of-r = LL.owed Rc.the-type Rc′.the-laws rec _ isrec in
-        assigns ! (addr ! (from ! (fld ! refl (hop ! (look-in ! 50 (sub ! 0 refl (whole !))) (stop !))))) (from ! (stop !)) (init ! 28 refl (tt, tt)) $
-        assigns ! (agg ! (and-then ! (load ! (from ! (stop !)) (look ! 28 refl)) (and-then ! (load ! (from ! (fld ! refl (stop !))) (look-in ! 50 (sub ! 1 refl (whole !)))) (no-more !)))) (from ! (stop !)) (init ! 26 refl (tt, (tt, (record { fits = roomwork .0 }, tt)))) $
-        assigns ! (addr ! (from ! (fld ! refl (hop ! (look-in ! 48 (sub ! 0 refl (whole !))) (stop !))))) (from ! (stop !)) (init ! 24 refl (tt, tt)) $
-        assigns ! (agg ! (and-then ! (load ! (from ! (stop !)) (look ! 24 refl)) (and-then ! (load ! (from ! (fld ! refl (stop !))) (look-in ! 48 (sub ! 1 refl (whole !)))) (no-more !)))) (from ! (stop !)) (init ! 22 refl (tt, (tt, (record { fits = roomheld .0 }, tt)))) $
+        assigns ! (slice-at ! 50 refl refl refl) (from ! (stop !)) (init ! 28 refl (tt, tt)) $
+        assigns ! (agg ! (and-then ! (local ! 28 refl) (and-then ! (part ! 50 1 refl refl refl) (no-more !)))) (from ! (stop !)) (init ! 26 refl (tt, (tt, (record { fits = roomwork .0 }, tt)))) $
+        assigns ! (slice-at ! 48 refl refl refl) (from ! (stop !)) (init ! 24 refl (tt, tt)) $
+        assigns ! (agg ! (and-then ! (local ! 24 refl) (and-then ! (part ! 48 1 refl refl refl) (no-more !)))) (from ! (stop !)) (init ! 22 refl (tt, (tt, (record { fits = roomheld .0 }, tt)))) $
         move ! (2 ∷ 3 ∷ 4 ∷ 5 ∷ []) $
-        takes-from ! bwork owork nwork w₁ bheld oheld nheld h₁ used (rec .first) (rec .asset) (rec .amount) mem run 𝓣 known-take wide roomwork long roomheld isused (of-r .1 .1 .1 .0 .1) (of-r .1 .0 .1) (of-r .1 .1 .0 .1) (few-used hists records n works helds outs req place found used w₁ h₁ wide long all) (λ ν δ ν′ δ′. (and-then ! (load ! (from ! (stop !)) (look ! 25 refl)) (and-then ! (load ! (from ! (stop !)) (look ! 41 refl)) (and-then ! (load ! (from ! (stop !)) (look ! 21 refl)) (and-then ! (load ! (from ! (fld ! refl (stop !))) (look-in ! 39 (sub ! 3 refl (whole !)))) (and-then ! (load ! (from ! (fld ! refl (stop !))) (look-in ! 39 (sub ! 1 refl (whole !)))) (and-then ! (load ! (from ! (fld ! refl (stop !))) (look-in ! 39 (sub ! 2 refl (whole !)))) (no-more !)))))))) (λ s w₂ h₂ samew sameh p iss.
+        takes-from ! bwork owork nwork w₁ bheld oheld nheld h₁ used (rec .first) (rec .asset) (rec .amount) mem run 𝓣 known-take wide roomwork long roomheld isused (of-r .1 .1 .1 .0 .1) (of-r .1 .0 .1) (of-r .1 .1 .0 .1) (few-used hists records n works helds outs req place found used w₁ h₁ wide long all) (λ ν δ ν′ δ′. (and-then ! (local ! 25 refl) (and-then ! (local ! 41 refl) (and-then ! (local ! 21 refl) (and-then ! (part ! 39 3 refl refl refl) (and-then ! (part ! 39 1 refl refl refl) (and-then ! (part ! 39 2 refl refl refl) (no-more !)))))))) (λ s w₂ h₂ samew sameh p iss.
         land ! (from ! (stop !)) (init ! 38 refl (LL.lawful Tk.the-type Tk′.the-laws 𝓤 H A W .typed s _ iss .0)) $
-        let taken-fits : s .taken < 2 ^ 64 = LL.owed Tk.the-type Tk′.the-laws s _ iss .1 .1 .0 .1 in  -- the pieces are handed out, and the work table cleared
-        assigns ! (addr ! (from ! (fld ! refl (hop ! (look-in ! 46 (sub ! 0 refl (whole !))) (stop !))))) (from ! (stop !)) (init ! 18 refl (tt, tt)) $
-        assigns ! (agg ! (and-then ! (load ! (from ! (stop !)) (look ! 18 refl)) (and-then ! (load ! (from ! (fld ! refl (stop !))) (look-in ! 46 (sub ! 1 refl (whole !)))) (no-more !)))) (from ! (stop !)) (init ! 16 refl (tt, (tt, (record { fits = roomout .0 }, tt)))) $
-        assigns ! (addr ! (from ! (fld ! refl (hop ! (look-in ! 48 (sub ! 0 refl (whole !))) (stop !))))) (from ! (stop !)) (init ! 14 refl (tt, tt)) $
-        assigns ! (agg ! (and-then ! (load ! (from ! (stop !)) (look ! 14 refl)) (and-then ! (load ! (from ! (fld ! refl (stop !))) (look-in ! 48 (sub ! 1 refl (whole !)))) (no-more !)))) (from ! (stop !)) (init ! 12 refl (tt, (tt, (record { fits = roomheld .0 }, tt)))) $
+        let taken-fits : s .taken < 2 ^ 64 = LL.owed Tk.the-type Tk′.the-laws s _ iss .1 .1 .0 .1 in
+        -- the pieces are handed out, and the work table cleared
+        assigns ! (slice-at ! 46 refl refl refl) (from ! (stop !)) (init ! 18 refl (tt, tt)) $
+        assigns ! (agg ! (and-then ! (local ! 18 refl) (and-then ! (part ! 46 1 refl refl refl) (no-more !)))) (from ! (stop !)) (init ! 16 refl (tt, (tt, (record { fits = roomout .0 }, tt)))) $
+        assigns ! (slice-at ! 48 refl refl refl) (from ! (stop !)) (init ! 14 refl (tt, tt)) $
+        assigns ! (agg ! (and-then ! (local ! 14 refl) (and-then ! (part ! 48 1 refl refl refl) (no-more !)))) (from ! (stop !)) (init ! 12 refl (tt, (tt, (record { fits = roomheld .0 }, tt)))) $
         move ! (6 ∷ 7 ∷ 2 ∷ 3 ∷ []) $
-        joins ! bout oout nout outs bheld oheld nheld h₂ 0 (s .taken) (rec .first) mem run 𝓣 known-join refl roomout (sameh ∙ long) roomheld (lit< tt) taken-fits (of-r .1 .1 .1 .0 .1) (pieces-fit hists records n works helds outs req place found used w₁ h₁ wide long all rec e s w₂ h₂ p) (λ ν δ ν′ δ′. (and-then ! (load ! (from ! (stop !)) (look ! 15 refl)) (and-then ! (lit ! tt) (and-then ! (load ! (from ! (stop !)) (look ! 11 refl)) (and-then ! (load ! (from ! (fld ! refl (stop !))) (look-in ! 37 (sub ! 2 refl (whole !)))) (and-then ! (load ! (from ! (fld ! refl (stop !))) (look-in ! 39 (sub ! 3 refl (whole !)))) (no-more !))))))) (λ laid sameo l.
-        land ! (from ! (stop !)) (init ! 20 refl (tt, tt)) $
-        assigns ! (addr ! (from ! (fld ! refl (hop ! (look-in ! 50 (sub ! 0 refl (whole !))) (stop !))))) (from ! (stop !)) (init ! 10 refl (tt, tt)) $
-        assigns ! (agg ! (and-then ! (load ! (from ! (stop !)) (look ! 10 refl)) (and-then ! (load ! (from ! (fld ! refl (stop !))) (look-in ! 50 (sub ! 1 refl (whole !)))) (no-more !)))) (from ! (stop !)) (init ! 8 refl (tt, (tt, (record { fits = roomwork .0 }, tt)))) $
-        move ! (4 ∷ 5 ∷ []) $
-        clears ! bwork owork nwork w₂ mem run 𝓣 known-clear (samew ∙ wide) roomwork (λ ν δ. (and-then ! (load ! (from ! (stop !)) (look ! 8 refl)) (no-more !))) (λ w₃ samec c.
+        joins ! bout oout nout outs bheld oheld nheld h₂ 0 (s .taken) (rec .first) mem run 𝓣 known-join refl roomout (sameh ∙ long) roomheld (lit< tt) taken-fits (of-r .1 .1 .1 .0 .1) (pieces-fit hists records n works helds outs req place found used w₁ h₁ wide long all rec e s w₂ h₂ p) (λ ν δ ν′ δ′. (and-then ! (local ! 15 refl) (and-then ! (lit ! tt) (and-then ! (local ! 11 refl) (and-then ! (part ! 37 2 refl refl refl) (and-then ! (part ! 39 3 refl refl refl) (no-more !))))))) (λ laid sameo l.
+        land ! (from ! (stop !)) (init ! 20 refl (tt, tt)) $ assigns ! (slice-at ! 50 refl refl refl) (from ! (stop !)) (init ! 10 refl (tt, tt)) $
+        assigns ! (agg ! (and-then ! (local ! 10 refl) (and-then ! (part ! 50 1 refl refl refl) (no-more !)))) (from ! (stop !)) (init ! 8 refl (tt, (tt, (record { fits = roomwork .0 }, tt)))) $
+        move ! (4 ∷ 5 ∷ []) $ clears ! bwork owork nwork w₂ mem run 𝓣 known-clear (samew ∙ wide) roomwork (λ ν δ. (and-then ! (local ! 8 refl) (no-more !))) (λ w₃ samec c.
         land ! (from ! (stop !)) (store ! 20 refl (tt, tt)) $ move ! (6 ∷ 7 ∷ 0 ∷ 1 ∷ 4 ∷ 5 ∷ 2 ∷ 3 ∷ []) $
-        assigns ! (of-opd ! (load ! (from ! (fld ! refl (stop !))) (look-in ! 38 (sub ! 2 refl (whole !))))) (from ! (stop !)) (init ! 58 refl (tt, record { fits = taken-fits })) $
+        assigns ! (of-opd ! (part ! 38 2 refl refl refl)) (from ! (stop !)) (init ! 58 refl (tt, record { fits = taken-fits })) $
+        -- it returns, and its locals are freed
         returns ! (look ! 58 refl) $ forget ! 58 refl $ forget ! 56 refl $ forget ! 54 refl $ forget ! 52 refl $ forget ! 50 refl $ forget ! 48 refl $ forget ! 46 refl $ forget ! 44 refl $
         forget ! 42 refl $ forget ! 40 refl $ forget ! 38 refl $ forget ! 36 refl $ forget ! 34 refl $ forget ! 32 refl $ forget ! 30 refl $ forget ! 28 refl $ forget ! 26 refl $
         forget ! 24 refl $ forget ! 22 refl $ forget ! 20 refl $ forget ! 18 refl $ forget ! 16 refl $ forget ! 14 refl $ forget ! 12 refl $ forget ! 10 refl $ forget ! 8 refl $

@@ -19,8 +19,8 @@ use contract.Monad.{Fun}
 use contract.Running.{givenOf, tables, tablesOf}
 use sound.WpLaws.{WpFn-mono}
 use types.Kit.{Given, Item, ‵, _⊛_, ⋆, atRet, _$_, _∵_, !, qed, by, move, keep, split, join, fsplit, fjoin, feqI, suffices, frame, done}
-use types.Part.{agg, whole, sub, look-in}
-use types.Run.{look, store, init, forget, stop, hop, fld, from, load, lit, unit-lit, addr, and-then, no-more, of-opd, bin, assigns, assigns-last, land, returns, exec, first, blocks, loops, again, enter, alloc1, alloc0, params1, pass1, pass0, free1, free0}
+use types.Part.{agg, whole}
+use types.Run.{look, store, init, forget, stop, from, lit, unit-lit, and-then, no-more, of-opd, bin, assigns, assigns-last, land, returns, exec, first, blocks, loops, again, enter, alloc1, alloc0, params1, pass1, pass0, free1, free0}
 use denote.Exit.{yes}
 use denote.RattleType.{owns}
 use denote.Ref.{RefT}
@@ -43,7 +43,8 @@ use Rattle.rules.proofs.rows.Lot as T
 use Rattle.rules.proofs.rows.Lot.Laws as T′
 use Rattle.rules.proofs.rows.DepositNumber as Dn
 use Rattle.rules.proofs.rows.DepositNumber.Laws as Dn′
-use Rattle.history.proofs.Loop.{tests, less, less-wf}
+use Rattle.history.proofs.Loop.{tests, next-fits, less, less-wf}
+use Rattle.history.proofs.Locals.{local, part, slice-at}
 use Rattle.history.proofs.Values.{R, machOf, no-number-is, zeros-is, at-list, sv, word, refmut, refm, places, cell, spare}
 use Rattle.history.proofs.LotCalls.{PutLot, puts-lot}
 use Rattle.history.proofs.rows.put_lot.Symbol as put-lot-def
@@ -122,26 +123,29 @@ module _ {M : Type 1} (𝓤 : URA M) (H : Heap 𝓤) (A : Atoms 𝓤) (W : Given
         split ! $ move ! (2 ∷ []) $ fsplit ! $ keep ! (0 ∷ 2 ∷ []) $ enter ! (𝓣 .C) (𝓣 .Λ) code.function (sv blot olot nlot ∷ []) _ $ alloc1 ! (λ l₀. alloc1 ! (λ l₁. alloc1 ! (λ l₂.
         alloc1 ! (λ l₃. alloc1 ! (λ l₄. alloc1 ! (λ l₅. alloc1 ! (λ l₆. alloc1 ! (λ l₇. alloc1 ! (λ l₈. alloc1 ! (λ l₉. alloc0 ! $ move ! (20 ∷ 21 ∷ []) $ params1 ! $
         pass1 ! (init ! 18 refl (tt, (tt, (record { fits = roomlot .0 }, tt)))) $ pass0 ! $
+        -- [what lots owns; its token; _9; …; and so on to _1; …; room for _0; …]
         assigns ! (agg ! (and-then ! (lit ! tt) (no-more !))) (from ! (stop !)) (init ! 12 refl (LL.lawful Dn.the-type Dn′.the-laws 𝓤 H A W .typed (record { 0 = 0 }) _ no-number-is .0)) $
-        assigns ! (agg ! (and-then ! (lit ! tt) (and-then ! (lit ! tt) (and-then ! (load ! (from ! (stop !)) (look ! 12 refl)) (and-then ! (lit ! tt) (no-more !)))))) (from ! (stop !)) (init ! 16 refl (LL.lawful T.the-type T′.the-laws 𝓤 H A W .typed noLot _ zeros-is .0)) $
+        assigns ! (agg ! (and-then ! (lit ! tt) (and-then ! (lit ! tt) (and-then ! (local ! 12 refl) (and-then ! (lit ! tt) (no-more !)))))) (from ! (stop !)) (init ! 16 refl (LL.lawful T.the-type T′.the-laws 𝓤 H A W .typed noLot _ zeros-is .0)) $
         forget ! 12 refl $ assigns ! (of-opd ! (lit ! tt)) (from ! (stop !)) (init ! 14 refl (tt, record { fits = lit< tt })) $
         first ! $ blocks ! $ loops ! 𝓣 (less μ) (less-wf μ) (I l₀ l₁ l₂ l₃ l₄ l₅ l₆ l₇ l₈ l₉) (λ t.
-        assigns ! (of-opd ! (load ! (from ! (fld ! refl (stop !))) (look-in ! 18 (sub ! 1 refl (whole !))))) (from ! (stop !)) (init ! 10 refl (tt, record { fits = roomlot .0 })) $
-        assigns ! (bin ! (load ! (from ! (stop !)) (look ! 14 refl)) (load ! (from ! (stop !)) (look ! 10 refl)) tt) (from ! (stop !)) (init ! 8 refl (tt, tt)) $
-        tests ! (load ! (from ! (stop !)) (look ! 8 refl)) (λ yes. let more : t .i < nlot = ltb→lt (t .i) nlot yes in
-        let fits : t .i < 2 ^ 64 = omega (arith, roomlot .0) in let next-fits : t .i + 1 < 2 ^ 64 = omega (arith, roomlot .0) in
-        assigns ! (addr ! (from ! (fld ! refl (hop ! (look-in ! 18 (sub ! 0 refl (whole !))) (stop !))))) (from ! (stop !)) (init ! 4 refl (tt, tt)) $
-        assigns ! (agg ! (and-then ! (load ! (from ! (stop !)) (look ! 4 refl)) (and-then ! (load ! (from ! (fld ! refl (stop !))) (look-in ! 18 (sub ! 1 refl (whole !)))) (no-more !)))) (from ! (stop !)) (init ! 2 refl (tt, (tt, (record { fits = roomlot .0 }, tt)))) $
-        puts-lot ! blot olot nlot (t .zs) (t .i) noLot mem run 𝓣 known-put (t .len) roomlot fits zeros-is (λ ν δ. (and-then ! (load ! (from ! (stop !)) (look ! 2 refl)) (and-then ! (load ! (from ! (stop !)) (look ! 14 refl)) (and-then ! (load ! (from ! (stop !)) (look ! 16 refl)) (no-more !))))) (λ ws same e.
+        assigns ! (of-opd ! (part ! 18 1 refl refl refl)) (from ! (stop !)) (init ! 10 refl (tt, record { fits = roomlot .0 })) $
+        assigns ! (bin ! (local ! 14 refl) (local ! 10 refl) tt) (from ! (stop !)) (init ! 8 refl (tt, tt)) $ tests ! (local ! 8 refl) (λ yes.
+        let more : t .i < nlot = ltb→lt (t .i) nlot yes in let fits : t .i < 2 ^ 64 = omega (arith, roomlot .0) in let next-fits : t .i + 1 < 2 ^ 64 = omega (arith, roomlot .0) in
+        -- a row is written
+        assigns ! (slice-at ! 18 refl refl refl) (from ! (stop !)) (init ! 4 refl (tt, tt)) $
+        assigns ! (agg ! (and-then ! (local ! 4 refl) (and-then ! (part ! 18 1 refl refl refl) (no-more !)))) (from ! (stop !)) (init ! 2 refl (tt, (tt, (record { fits = roomlot .0 }, tt)))) $
+        puts-lot ! blot olot nlot (t .zs) (t .i) noLot mem run 𝓣 known-put (t .len) roomlot fits zeros-is (λ ν δ. (and-then ! (local ! 2 refl) (and-then ! (local ! 14 refl) (and-then ! (local ! 16 refl) (no-more !))))) (λ ws same e.
         land ! (from ! (stop !)) (init ! 6 refl (tt, tt)) $
-        assigns-last ! (bin ! (load ! (from ! (stop !)) (look ! 14 refl)) (lit ! tt) (record { fits = next-fits })) (from ! (stop !)) (store ! 14 refl (tt, record { fits = next-fits })) $
-        forget ! 10 refl $ forget ! 8 refl $ forget ! 6 refl $ forget ! 4 refl $ forget ! 2 refl $
-        again ! (less μ) (I l₀ l₁ l₂ l₃ l₄ l₅ l₆ l₇ l₈ l₉) t (next t ws more same e) (falls t more))) (λ no.
+        assigns-last ! (bin ! (local ! 14 refl) (lit ! tt) (record { fits = next-fits })) (from ! (stop !)) (store ! 14 refl (tt, record { fits = next-fits })) $ forget ! 10 refl $
+        forget ! 8 refl $ forget ! 6 refl $ forget ! 4 refl $ forget ! 2 refl $ again ! (less μ) (I l₀ l₁ l₂ l₃ l₄ l₅ l₆ l₇ l₈ l₉) t (next t ws more same e) (falls t more))) (λ no.
+        -- the loop is left
         exec ! (𝓣 .C) (𝓣 .Λ) (places codeMir.locals (l₀ ∷ l₁ ∷ l₂ ∷ l₃ ∷ l₄ ∷ l₅ ∷ l₆ ∷ l₇ ∷ l₈ ∷ l₉ ∷ [])) codeMir.t-5 (atRet (places codeMir.locals (l₀ ∷ l₁ ∷ l₂ ∷ l₃ ∷ l₄ ∷ l₅ ∷ l₆ ∷ l₇ ∷ l₈ ∷ l₉ ∷ [])) Post) $
-        assigns ! (of-opd ! (unit-lit !)) (from ! (stop !)) (init ! 20 refl (tt, tt)) $ returns ! (look ! 20 refl) $ forget ! 20 refl $ forget ! 18 refl $ forget ! 16 refl $
-        forget ! 14 refl $ forget ! 10 refl $ forget ! 8 refl $ move ! (20 ∷ 21 ∷ []) $ free1 ! $ move ! (18 ∷ 19 ∷ []) $ free1 ! $ move ! (16 ∷ 17 ∷ []) $ free1 ! $
-        move ! (14 ∷ 15 ∷ []) $ free1 ! $ move ! (12 ∷ 13 ∷ []) $ free1 ! $ move ! (10 ∷ 11 ∷ []) $ free1 ! $ move ! (8 ∷ 9 ∷ []) $ free1 ! $ move ! (6 ∷ 7 ∷ []) $ free1 ! $
-        move ! (4 ∷ 5 ∷ []) $ free1 ! $ move ! (2 ∷ 3 ∷ []) $ free1 ! $ free0 ! $ by ! (exits (t .zs) (t .len) (ended-at t (nltb→le (t .i) nlot no))))) (start lots)))))))))))
+        assigns ! (of-opd ! (unit-lit !)) (from ! (stop !)) (init ! 20 refl (tt, tt)) $
+        -- it returns, and its locals are freed
+        returns ! (look ! 20 refl) $ forget ! 20 refl $ forget ! 18 refl $ forget ! 16 refl $ forget ! 14 refl $ forget ! 10 refl $ forget ! 8 refl $ move ! (20 ∷ 21 ∷ []) $ free1 ! $
+        move ! (18 ∷ 19 ∷ []) $ free1 ! $ move ! (16 ∷ 17 ∷ []) $ free1 ! $ move ! (14 ∷ 15 ∷ []) $ free1 ! $ move ! (12 ∷ 13 ∷ []) $ free1 ! $ move ! (10 ∷ 11 ∷ []) $ free1 ! $
+        move ! (8 ∷ 9 ∷ []) $ free1 ! $ move ! (6 ∷ 7 ∷ []) $ free1 ! $ move ! (4 ∷ 5 ∷ []) $ free1 ! $ move ! (2 ∷ 3 ∷ []) $ free1 ! $ free0 ! $
+        by ! (exits (t .zs) (t .len) (ended-at t (nltb→le (t .i) nlot no))))) (start lots)))))))))))
 
 module _ {M : Type 1} (𝓤 : URA M) (H : Heap 𝓤) (A : Atoms 𝓤) (W : Given 𝓤 H A) (mem : Memory → SProp 𝓤) (run : Routine → Fun 𝓤) (𝓣 : Tables 𝓤 H) (known-put : Triple 𝓤 (𝓣 .C #put-lot) (PutLot 𝓤 H A mem run)) where
   clear-walks : Walks 𝓤 H A f.ended stayed (WpFn 𝓤 H (𝓣 .C) (𝓣 .Λ) code.function) (f.clauses 𝓤 H A mem run)

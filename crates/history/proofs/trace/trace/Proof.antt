@@ -1,7 +1,7 @@
 -- `history::trace::trace` meets its contract: a walk of its MIR, by hand. Where it is refused it returns at once; else an array of lots is made in a local, lent to `traced` and freed (`TraceCalls.antt`).
 -- Assumes nothing.
 use mathlib.Core.Path.{_≡_, refl, sym, _∙_}
-use Prim.Native.Nat.{ℕ, suc, _<_, _^_, _-_}
+use Prim.Native.Nat.{ℕ, _<_, _^_, _-_}
 use mathlib.Core.List.{List, [], _∷_}
 use lib.ListN.{length, replicate}
 use lib.Dec.{lit<}
@@ -18,8 +18,8 @@ use contract.Monad.{Fun}
 use contract.Running.{givenOf, tables, tablesOf}
 use sound.WpLaws.{WpFn-mono}
 use types.Kit.{Given, ‵, _⊛_, ⋆, atRet, _$_, _∵_, !, qed, by, move, keep, split, join, fsplit, fjoin, suffices, frame, done}
-use types.Part.{agg, whole, sub, look-in}
-use types.Run.{look, init, forget, stop, hop, fld, from, load, lit, addr, and-then, no-more, of-opd, assigns, land, returns, exec, first, branches, skips, enter, alloc1, alloc0, params1, pass1, pass0, free1, free0}
+use types.Part.{agg}
+use types.Run.{look, init, forget, stop, from, lit, addr, and-then, no-more, of-opd, assigns, land, returns, exec, first, branches, skips, enter, alloc1, alloc0, params1, pass1, pass0, free1, free0}
 use denote.Exit.{yes}
 use denote.RattleType.{owns}
 use denote.Laws.{Is}
@@ -34,14 +34,12 @@ use denote.Triple.Spec.{Meets, tripleOf}
 use denote.Triple.Statement.{Triple}
 use denote.Triple.Table.{entered, cited}
 use denote.Triple.Walked.{says, Stays, stay-slice, stay-none-slice, stay-none, walkOf, Walks, ends-at, walked, goes-slice, goes-none-slice, goes-none, walk-meets}
-use Prim.Native.Nat.{zero}
 use mathlib.Core.Bool.{Bool, true, false, not}
 use lib.Dec.{T as Holds}
 use lib.ListN.{length-replicate}
 use types.Part.{rep}
 use types.Run.{un, returns-within}
-use denote.Shadow.{shadow}
-use denote.Array.{Array, arrayVal, each, array-lawful}
+use denote.Array.{array-lawful}
 use denote.Enum.Laws as LE
 use Rattle.rules.specs.declared.rows.Lot.{Lot}
 use Rattle.rules.specs.declared.rows.Nonce.{Nonce}
@@ -63,7 +61,9 @@ use Rattle.desk.specs.Parts.{isDone}
 use Rattle.history.specs.Tracing.{traceOutcomeOf}
 use Rattle.history.proofs.Traced.{trace-refused, can-trace, trace-done}
 use Rattle.history.proofs.Loop.{big-lit}
+use Rattle.history.proofs.Locals.{local, part, slice-at}
 use Rattle.history.proofs.Values.{R, machOf, no-number-is, zeros-is, Desks, machK, Nonces, machN, Answers, machA, at-list, sv, places}
+use Rattle.history.proofs.Table.{table-is}
 use Rattle.history.proofs.TraceCalls.{TraceReply, refuses, IsDone, asks-done, Traced, traces-in}
 use Rattle.history.proofs.refusals.trace_reply.Symbol as trace-reply-def
 use Rattle.history.proofs.refusals.trace_reply.Symbol.{name as #trace-reply}
@@ -92,13 +92,6 @@ scratch = 1024
 
 scratch-room : Room R scratch
 scratch-room = (lit< tt, lit< tt)
-
-all-zeros : (n : ℕ) → shadow (each Lot (R .own) (replicate n noLot) (replicate n (machOf noLot)))
-all-zeros zero = tt
-all-zeros (suc n) = (zeros-is, all-zeros n)
-
-table-is : (n : ℕ) → Is (Array R n) (replicate n noLot) (arrayVal (replicate n (machOf noLot)) ∷ [])
-table-is n = (replicate n (machOf noLot), ((refl, length-replicate n noLot), all-zeros n))
 
 -- ---- the values read and made
 records-fit : (d : Desk) → Is Desks d (machK d ∷ []) → d .records < 2 ^ 64
@@ -167,14 +160,16 @@ module _ {M : Type 1} (𝓤 : URA M) (H : Heap 𝓤) (A : Atoms 𝓤) (W : Given
         pass1 ! (init ! 48 refl (tt, (tt, (record { fits = roomoutb .0 }, tt)))) $ pass1 ! (init ! 46 refl (tt, (tt, (record { fits = roomhist .0 }, tt)))) $
         pass1 ! (init ! 44 refl (tt, (tt, (record { fits = roomwork .0 }, tt)))) $ pass1 ! (init ! 42 refl (tt, (tt, (record { fits = roomout .0 }, tt)))) $
         pass1 ! (init ! 40 refl (LL.lawful Nn.the-type Nn′.the-laws 𝓤 H A W .typed non _ isnon .0)) $ pass0 ! $
-        assigns ! (of-opd ! (load ! (from ! (fld ! refl (stop !))) (look-in ! 44 (sub ! 1 refl (whole !))))) (from ! (stop !)) (init ! 32 refl (tt, record { fits = roomwork .0 })) $
-        assigns ! (of-opd ! (load ! (from ! (fld ! refl (stop !))) (look-in ! 42 (sub ! 1 refl (whole !))))) (from ! (stop !)) (init ! 30 refl (tt, record { fits = roomout .0 })) $
-        refuses ! binb oinb ninb inbs boutb ooutb noutb outbs bhist ohist nhist hists dk nwork nout non mem run 𝓣 known-reply isdk (roomwork .0) (roomout .0) isnon (and-then ! (load ! (from ! (stop !)) (look ! 50 refl)) (and-then ! (load ! (from ! (stop !)) (look ! 48 refl)) (and-then ! (load ! (from ! (stop !)) (look ! 46 refl)) (and-then ! (load ! (from ! (stop !)) (look ! 44 refl)) (and-then ! (load ! (from ! (stop !)) (look ! 30 refl)) (and-then ! (load ! (from ! (stop !)) (look ! 28 refl)) (and-then ! (load ! (from ! (stop !)) (look ! 38 refl)) (no-more !)))))))) (λ reply tells isreply.
+        -- [what inbox owns; its token; what outbox owns; its token; what history owns; its token; what work owns; its token; what pieces owns; its token; _22; …; and so on to _1; …; room for _0; …]
+        -- the table of refusals is asked
+        assigns ! (of-opd ! (part ! 44 1 refl refl refl)) (from ! (stop !)) (init ! 32 refl (tt, record { fits = roomwork .0 })) $
+        assigns ! (of-opd ! (part ! 42 1 refl refl refl)) (from ! (stop !)) (init ! 30 refl (tt, record { fits = roomout .0 })) $
+        refuses ! binb oinb ninb inbs boutb ooutb noutb outbs bhist ohist nhist hists dk nwork nout non mem run 𝓣 known-reply isdk (roomwork .0) (roomout .0) isnon (and-then ! (local ! 50 refl) (and-then ! (local ! 48 refl) (and-then ! (local ! 46 refl) (and-then ! (local ! 44 refl) (and-then ! (local ! 30 refl) (and-then ! (local ! 28 refl) (and-then ! (local ! 38 refl) (no-more !)))))))) (λ reply tells isreply.
         land ! (from ! (stop !)) (init ! 38 refl (LE.lawful An.the-type An′.the-laws 𝓤 H A W tt .typed reply _ isreply .0)) $
-        asks-done ! reply mem run 𝓣 known-done isreply (and-then ! (load ! (from ! (stop !)) (look ! 39 refl)) (no-more !)) (λ done′ asked.
-        land ! (from ! (stop !)) (init ! 28 refl (tt, tt)) $ assigns ! (un ! (load ! (from ! (stop !)) (look ! 28 refl)) tt) (from ! (stop !)) (init ! 26 refl (tt, tt)) $
-        first ! $ branches ! (load ! (from ! (stop !)) (look ! 26 refl)) (λ refused.
-        assigns ! (of-opd ! (load ! (from ! (stop !)) (look ! 38 refl))) (from ! (stop !)) (init ! 54 refl (LE.lawful An.the-type An′.the-laws 𝓤 H A W tt .typed reply _ isreply .0)) $
+        asks-done ! reply mem run 𝓣 known-done isreply (and-then ! (local ! 39 refl) (no-more !)) (λ done′ asked. land ! (from ! (stop !)) (init ! 28 refl (tt, tt)) $
+        assigns ! (un ! (local ! 28 refl) tt) (from ! (stop !)) (init ! 26 refl (tt, tt)) $ first ! $ branches ! (local ! 26 refl)
+        -- refused: the reply is returned
+        (λ refused. assigns ! (of-opd ! (local ! 38 refl)) (from ! (stop !)) (init ! 54 refl (LE.lawful An.the-type An′.the-laws 𝓤 H A W tt .typed reply _ isreply .0)) $
         returns-within ! Post refl (look ! 54 refl) $ forget ! 54 refl $ forget ! 52 refl $ forget ! 50 refl $ forget ! 48 refl $ forget ! 46 refl $ forget ! 44 refl $ forget ! 42 refl $
         forget ! 40 refl $ forget ! 38 refl $ forget ! 32 refl $ forget ! 30 refl $ forget ! 28 refl $ forget ! 26 refl $ move ! (54 ∷ 55 ∷ []) $ free1 ! $ move ! (52 ∷ 53 ∷ []) $ free1 ! $
         move ! (50 ∷ 51 ∷ []) $ free1 ! $ move ! (48 ∷ 49 ∷ []) $ free1 ! $ move ! (46 ∷ 47 ∷ []) $ free1 ! $ move ! (44 ∷ 45 ∷ []) $ free1 ! $ move ! (42 ∷ 43 ∷ []) $ free1 ! $
@@ -183,24 +178,28 @@ module _ {M : Type 1} (𝓤 : URA M) (H : Heap 𝓤) (A : Atoms 𝓤) (W : Given
         move ! (20 ∷ 21 ∷ []) $ free1 ! $ move ! (18 ∷ 19 ∷ []) $ free1 ! $ move ! (16 ∷ 17 ∷ []) $ free1 ! $ move ! (14 ∷ 15 ∷ []) $ free1 ! $ move ! (12 ∷ 13 ∷ []) $ free1 ! $
         move ! (10 ∷ 11 ∷ []) $ free1 ! $ free0 ! $
         by ! (exits isdk isnon reply isreply works refl outs refl (trace-refused (bookOf dk inbs outbs hists) works outs non reply tells (sym asked ∙ was-false done′ refused))))
+        -- not refused: the scratch table is made
         (λ goes-on. skips ! $
         exec ! (𝓣 .C) (𝓣 .Λ) (places codeMir.locals (l₀ ∷ l₁ ∷ l₂ ∷ l₃ ∷ l₄ ∷ l₅ ∷ l₆ ∷ l₇ ∷ l₈ ∷ l₉ ∷ l₁₀ ∷ l₁₁ ∷ l₁₂ ∷ l₁₃ ∷ l₁₄ ∷ l₁₅ ∷ l₁₆ ∷ l₁₇ ∷ l₁₈ ∷ l₁₉ ∷ l₂₀ ∷ l₂₁ ∷ l₂₂ ∷ [])) codeMir.t-7 (atRet (places codeMir.locals (l₀ ∷ l₁ ∷ l₂ ∷ l₃ ∷ l₄ ∷ l₅ ∷ l₆ ∷ l₇ ∷ l₈ ∷ l₉ ∷ l₁₀ ∷ l₁₁ ∷ l₁₂ ∷ l₁₃ ∷ l₁₄ ∷ l₁₅ ∷ l₁₆ ∷ l₁₇ ∷ l₁₈ ∷ l₁₉ ∷ l₂₀ ∷ l₂₁ ∷ l₂₂ ∷ [])) Post) $
         assigns ! (agg ! (and-then ! (lit ! tt) (no-more !))) (from ! (stop !)) (init ! 24 refl (LL.lawful Dn.the-type Dn′.the-laws 𝓤 H A W .typed (record { 0 = 0 }) _ no-number-is .0)) $
-        assigns ! (agg ! (and-then ! (lit ! tt) (and-then ! (lit ! tt) (and-then ! (load ! (from ! (stop !)) (look ! 24 refl)) (and-then ! (lit ! tt) (no-more !)))))) (from ! (stop !)) (init ! 22 refl (LL.lawful T.the-type T′.the-laws 𝓤 H A W .typed noLot _ zeros-is .0)) $
-        assigns ! (rep ! scratch (load ! (from ! (stop !)) (look ! 22 refl))) (from ! (stop !)) (init ! 36 refl (array-lawful 𝓤 H A W R (LL.lawful T.the-type T′.the-laws 𝓤 H A W) scratch .typed (replicate scratch noLot) _ (table-is scratch) .0)) $
-        assigns ! (addr ! (from ! (fld ! refl (hop ! (look-in ! 44 (sub ! 0 refl (whole !))) (stop !))))) (from ! (stop !)) (init ! 20 refl (tt, tt)) $
-        assigns ! (agg ! (and-then ! (load ! (from ! (stop !)) (look ! 20 refl)) (and-then ! (load ! (from ! (fld ! refl (stop !))) (look-in ! 44 (sub ! 1 refl (whole !)))) (no-more !)))) (from ! (stop !)) (init ! 18 refl (tt, (tt, (record { fits = roomwork .0 }, tt)))) $
+        assigns ! (agg ! (and-then ! (lit ! tt) (and-then ! (lit ! tt) (and-then ! (local ! 24 refl) (and-then ! (lit ! tt) (no-more !)))))) (from ! (stop !)) (init ! 22 refl (LL.lawful T.the-type T′.the-laws 𝓤 H A W .typed noLot _ zeros-is .0)) $
+        assigns ! (rep ! scratch (local ! 22 refl)) (from ! (stop !)) (init ! 36 refl (array-lawful 𝓤 H A W R (LL.lawful T.the-type T′.the-laws 𝓤 H A W) scratch .typed (replicate scratch noLot) _ (table-is R noLot (machOf noLot) zeros-is scratch) .0)) $
+        assigns ! (slice-at ! 44 refl refl refl) (from ! (stop !)) (init ! 20 refl (tt, tt)) $
+        assigns ! (agg ! (and-then ! (local ! 20 refl) (and-then ! (part ! 44 1 refl refl refl) (no-more !)))) (from ! (stop !)) (init ! 18 refl (tt, (tt, (record { fits = roomwork .0 }, tt)))) $
         assigns ! (addr ! (from ! (stop !))) (from ! (stop !)) (init ! 16 refl (tt, tt)) $
-        assigns ! (agg ! (and-then ! (load ! (from ! (stop !)) (look ! 16 refl)) (and-then ! (big-lit ! (lit< tt)) (no-more !)))) (from ! (stop !)) (init ! 14 refl (tt, (tt, (record { fits = lit< tt }, tt)))) $
-        assigns ! (addr ! (from ! (fld ! refl (hop ! (look-in ! 42 (sub ! 0 refl (whole !))) (stop !))))) (from ! (stop !)) (init ! 12 refl (tt, tt)) $
-        assigns ! (agg ! (and-then ! (load ! (from ! (stop !)) (look ! 12 refl)) (and-then ! (load ! (from ! (fld ! refl (stop !))) (look-in ! 42 (sub ! 1 refl (whole !)))) (no-more !)))) (from ! (stop !)) (init ! 10 refl (tt, (tt, (record { fits = roomout .0 }, tt)))) $
+        assigns ! (agg ! (and-then ! (local ! 16 refl) (and-then ! (big-lit ! (lit< tt)) (no-more !)))) (from ! (stop !)) (init ! 14 refl (tt, (tt, (record { fits = lit< tt }, tt)))) $
+        assigns ! (slice-at ! 42 refl refl refl) (from ! (stop !)) (init ! 12 refl (tt, tt)) $
+        assigns ! (agg ! (and-then ! (local ! 12 refl) (and-then ! (part ! 42 1 refl refl refl) (no-more !)))) (from ! (stop !)) (init ! 10 refl (tt, (tt, (record { fits = roomout .0 }, tt)))) $
         let well : isDone reply ≡ true = sym asked ∙ was-true done′ goes-on in
         let can = can-trace (bookOf dk inbs outbs hists) works outs non reply tells well (replicate scratch noLot) (length-replicate scratch noLot) in
+        -- and lent, with the others
         move ! (4 ∷ 5 ∷ 6 ∷ 7 ∷ 36 ∷ 8 ∷ 9 ∷ []) $
-        traces-in ! bhist ohist nhist hists bwork owork nwork works l₉ scratch bout oout nout outs (dk .records) (non .0) mem run 𝓣 known-traced refl roomwork scratch-room refl roomout (records-fit dk isdk) (nonce-fits non isnon) can (λ ν δ ν′ δ′ ν″ δ″. (and-then ! (load ! (from ! (stop !)) (look ! 44 refl)) (and-then ! (load ! (from ! (fld ! refl (stop !))) (look-in ! 50 (sub ! 9 refl (whole !)))) (and-then ! (load ! (from ! (fld ! refl (stop !))) (look-in ! 38 (sub ! 0 refl (whole !)))) (and-then ! (load ! (from ! (stop !)) (look ! 17 refl)) (and-then ! (load ! (from ! (stop !)) (look ! 13 refl)) (and-then ! (load ! (from ! (stop !)) (look ! 9 refl)) (no-more !)))))))) (λ count w′ o′ samew sameo t fits.
+        traces-in ! bhist ohist nhist hists bwork owork nwork works l₉ scratch bout oout nout outs (dk .records) (non .0) mem run 𝓣 known-traced refl roomwork scratch-room refl roomout (records-fit dk isdk) (nonce-fits non isnon) can (λ ν δ ν′ δ′ ν″ δ″. (and-then ! (local ! 44 refl) (and-then ! (part ! 50 9 refl refl refl) (and-then ! (part ! 38 0 refl refl refl) (and-then ! (local ! 17 refl) (and-then ! (local ! 13 refl) (and-then ! (local ! 9 refl) (no-more !)))))))) (λ count w′ o′ samew sameo t fits.
         move ! (7 ∷ 8 ∷ 9 ∷ 10 ∷ 0 ∷ 1 ∷ 2 ∷ 3 ∷ 5 ∷ 6 ∷ 11 ∷ 12 ∷ 13 ∷ 14 ∷ 15 ∷ 16 ∷ 17 ∷ 18 ∷ 19 ∷ 20 ∷ 21 ∷ 22 ∷ 23 ∷ 24 ∷ 25 ∷ 26 ∷ 27 ∷ 28 ∷ 29 ∷ 30 ∷ 31 ∷ 32 ∷ 33 ∷ 34 ∷ 35 ∷ 36 ∷ 4 ∷ []) $
+        -- its room is back in its place
         land ! (from ! (stop !)) (init ! 34 refl (tt, record { fits = fits })) $
-        assigns ! (agg ! (and-then ! (lit ! tt) (and-then ! (load ! (from ! (stop !)) (look ! 34 refl)) (no-more !)))) (from ! (stop !)) (init ! 54 refl (LE.lawful An.the-type An′.the-laws 𝓤 H A W tt .typed (Answer.Traced count) _ (traced-is count fits) .0)) $
+        assigns ! (agg ! (and-then ! (lit ! tt) (and-then ! (local ! 34 refl) (no-more !)))) (from ! (stop !)) (init ! 54 refl (LE.lawful An.the-type An′.the-laws 𝓤 H A W tt .typed (Answer.Traced count) _ (traced-is count fits) .0)) $
+        -- it returns, and its locals are freed
         returns ! (look ! 54 refl) $ forget ! 54 refl $ forget ! 52 refl $ forget ! 50 refl $ forget ! 48 refl $ forget ! 46 refl $ forget ! 44 refl $ forget ! 42 refl $ forget ! 40 refl $
         forget ! 38 refl $ forget ! 34 refl $ forget ! 32 refl $ forget ! 30 refl $ forget ! 28 refl $ forget ! 26 refl $ forget ! 24 refl $ forget ! 22 refl $ forget ! 20 refl $
         forget ! 18 refl $ forget ! 16 refl $ forget ! 14 refl $ forget ! 12 refl $ forget ! 10 refl $ move ! (54 ∷ 55 ∷ []) $ free1 ! $ move ! (52 ∷ 53 ∷ []) $ free1 ! $

@@ -19,8 +19,8 @@ use contract.Monad.{Fun}
 use contract.Running.{givenOf, tables, tablesOf}
 use sound.WpLaws.{WpFn-mono}
 use types.Kit.{Given, Item, ‵, _⊛_, ⋆, atRet, _$_, _∵_, !, qed, by, move, keep, split, join, fsplit, fjoin, feqI, suffices, frame, done}
-use types.Part.{agg, whole, sub, look-in, store-in}
-use types.Run.{look, store, init, forget, stop, hop, fld, from, load, lit, unit-lit, addr, and-then, no-more, of-opd, bin, assigns, assigns-last, land, returns, exec, first, blocks, loops, again, enter, alloc1, alloc0, params1, pass1, pass0, free1, free0}
+use types.Part.{agg, whole, sub, store-in}
+use types.Run.{look, store, init, forget, stop, fld, from, lit, unit-lit, and-then, no-more, of-opd, bin, assigns, assigns-last, land, returns, exec, first, blocks, loops, again, enter, alloc1, alloc0, params1, pass1, pass0, free1, free0}
 use denote.Exit.{yes}
 use denote.RattleType.{owns}
 use denote.Laws.{Is}
@@ -43,7 +43,8 @@ use Rattle.rules.proofs.rows.Lot as T
 use Rattle.rules.proofs.rows.Lot.Laws as T′
 use Rattle.history.specs.Working.{joinedOn}
 use Rattle.history.proofs.Passing.{joined-more, joined-end}
-use Rattle.history.proofs.Loop.{tests, less, less-wf}
+use Rattle.history.proofs.Loop.{tests, below, next-fits, less, less-wf}
+use Rattle.history.proofs.Locals.{local, part, slice-at}
 use Rattle.history.proofs.Values.{R, machOf, at-list, sv, word, refmut, refimm, refm, places, cell, spare}
 use Rattle.history.proofs.LotCalls.{PutLot, puts-lot, LotRead, reads-lot}
 use Rattle.history.proofs.rows.put_lot.Symbol as put-lot-def
@@ -65,12 +66,6 @@ abbrev stayed : Stays (f.ended .signature .params) (f.ended .kept)
 stayed = (stay-slice (0 ∷ []) tt (plain (λ _. T.the-row)), (stay-none (λ _. usize) yes, (stay-none-slice (1 ∷ []) tt (plain (λ _. T.the-row)) yes, (stay-none (λ _. usize) yes, (stay-none (λ _. u64) yes, tt)))))
 
 -- ---- numbers
-below : {i n : ℕ} → n < 2 ^ 64 → i < n → i < 2 ^ 64
-below l h = omega arith
-
-next-fits : {i n : ℕ} → n < 2 ^ 64 → i < n → i + 1 < 2 ^ 64
-next-fits l h = omega arith
-
 sum-fits : (used count j : ℕ) → used + count ≤ 2048 → j < count → used + j < 2 ^ 64
 sum-fits used count j l h = omega arith
 
@@ -147,30 +142,36 @@ module _ {M : Type 1} (𝓤 : URA M) (H : Heap 𝓤) (A : Atoms 𝓤) (W : Given
         alloc0 ! $ move ! (26 ∷ 27 ∷ 28 ∷ 29 ∷ []) $ params1 ! $ pass1 ! (init ! 26 refl (tt, (tt, (record { fits = roomwork .0 }, tt)))) $
         pass1 ! (init ! 24 refl (tt, record { fits = isused })) $ pass1 ! (init ! 22 refl (tt, (tt, (record { fits = roomheld .0 }, tt)))) $
         pass1 ! (init ! 20 refl (tt, record { fits = iscount })) $ pass1 ! (init ! 18 refl (tt, record { fits = ismember })) $ pass0 ! $
+        -- [what work owns; its token; what held owns; its token; _12; …; and so on to _1; …; room for _0; …]
         assigns ! (of-opd ! (lit ! tt)) (from ! (stop !)) (init ! 16 refl (tt, record { fits = lit< tt })) $
         first ! $ blocks ! $ loops ! 𝓣 (less μ) (less-wf μ) (I l₀ l₁ l₂ l₃ l₄ l₅ l₆ l₇ l₈ l₉ l₁₀ l₁₁ l₁₂) (λ t.
-        assigns ! (bin ! (load ! (from ! (stop !)) (look ! 16 refl)) (load ! (from ! (stop !)) (look ! 20 refl)) tt) (from ! (stop !)) (init ! 12 refl (tt, tt)) $
-        tests ! (load ! (from ! (stop !)) (look ! 12 refl)) (λ yes. let more : t .j < count = ltb→lt (t .j) count yes in let fits : t .j < 2 ^ 64 = below iscount more in
-        move ! (2 ∷ 3 ∷ []) $
-        reads-lot ! bheld oheld nheld helds (t .j) mem run 𝓣 known-get fits (and-then ! (load ! (from ! (stop !)) (look ! 22 refl)) (and-then ! (load ! (from ! (stop !)) (look ! 16 refl)) (no-more !))) (λ l e isl.
+        assigns ! (bin ! (local ! 16 refl) (local ! 20 refl) tt) (from ! (stop !)) (init ! 12 refl (tt, tt)) $ tests ! (local ! 12 refl) (λ yes.
+        let more : t .j < count = ltb→lt (t .j) count yes in let fits : t .j < 2 ^ 64 = below iscount more in
+        -- a piece is read
+        move ! (2 ∷ 3 ∷ []) $ reads-lot ! bheld oheld nheld helds (t .j) mem run 𝓣 known-get fits (and-then ! (local ! 22 refl) (and-then ! (local ! 16 refl) (no-more !))) (λ l e isl.
         land ! (from ! (stop !)) (init ! 14 refl (LL.lawful T.the-type T′.the-laws 𝓤 H A W .typed l _ isl .0)) $
         let of-l = LL.owed T.the-type T′.the-laws l _ isl in let owned-is = owner-is member l ismember isl in
-        assigns ! (of-opd ! (load ! (from ! (stop !)) (look ! 18 refl))) (from ! (fld ! refl (stop !))) (store-in ! 14 (sub ! 0 refl (whole !)) (tt, record { fits = ismember })) $
-        assigns ! (addr ! (from ! (fld ! refl (hop ! (look-in ! 26 (sub ! 0 refl (whole !))) (stop !))))) (from ! (stop !)) (init ! 8 refl (tt, tt)) $
-        assigns ! (agg ! (and-then ! (load ! (from ! (stop !)) (look ! 8 refl)) (and-then ! (load ! (from ! (fld ! refl (stop !))) (look-in ! 26 (sub ! 1 refl (whole !)))) (no-more !)))) (from ! (stop !)) (init ! 6 refl (tt, (tt, (record { fits = roomwork .0 }, tt)))) $
-        assigns ! (bin ! (load ! (from ! (stop !)) (look ! 24 refl)) (load ! (from ! (stop !)) (look ! 16 refl)) (record { fits = sum-fits used count (t .j) req more })) (from ! (stop !)) (init ! 4 refl (tt, record { fits = sum-fits used count (t .j) req more })) $
+        -- it gets its new owner
+        assigns ! (of-opd ! (local ! 18 refl)) (from ! (fld ! refl (stop !))) (store-in ! 14 (sub ! 0 refl (whole !)) (tt, record { fits = ismember })) $
+        -- and is written
+        assigns ! (slice-at ! 26 refl refl refl) (from ! (stop !)) (init ! 8 refl (tt, tt)) $
+        assigns ! (agg ! (and-then ! (local ! 8 refl) (and-then ! (part ! 26 1 refl refl refl) (no-more !)))) (from ! (stop !)) (init ! 6 refl (tt, (tt, (record { fits = roomwork .0 }, tt)))) $
+        assigns ! (bin ! (local ! 24 refl) (local ! 16 refl) (record { fits = sum-fits used count (t .j) req more })) (from ! (stop !)) (init ! 4 refl (tt, record { fits = sum-fits used count (t .j) req more })) $
         move ! (2 ∷ 3 ∷ []) $
-        puts-lot ! bwork owork nwork (t .ws) (used + t .j) (ofMember member l) mem run 𝓣 known-put (t .lenw) roomwork (sum-fits used count (t .j) req more) owned-is (λ ν δ. (and-then ! (load ! (from ! (stop !)) (look ! 6 refl)) (and-then ! (load ! (from ! (stop !)) (look ! 4 refl)) (and-then ! (load ! (from ! (stop !)) (look ! 14 refl)) (no-more !))))) (λ ws′ samew k.
+        puts-lot ! bwork owork nwork (t .ws) (used + t .j) (ofMember member l) mem run 𝓣 known-put (t .lenw) roomwork (sum-fits used count (t .j) req more) owned-is (λ ν δ. (and-then ! (local ! 6 refl) (and-then ! (local ! 4 refl) (and-then ! (local ! 14 refl) (no-more !))))) (λ ws′ samew k.
         land ! (from ! (stop !)) (init ! 10 refl (tt, tt)) $
-        assigns-last ! (bin ! (load ! (from ! (stop !)) (look ! 16 refl)) (lit ! tt) (record { fits = next-fits iscount more })) (from ! (stop !)) (store ! 16 refl (tt, record { fits = next-fits iscount more })) $
+        assigns-last ! (bin ! (local ! 16 refl) (lit ! tt) (record { fits = next-fits iscount more })) (from ! (stop !)) (store ! 16 refl (tt, record { fits = next-fits iscount more })) $
         forget ! 14 refl $ forget ! 12 refl $ forget ! 10 refl $ forget ! 8 refl $ forget ! 6 refl $ forget ! 4 refl $
         again ! (less μ) (I l₀ l₁ l₂ l₃ l₄ l₅ l₆ l₇ l₈ l₉ l₁₀ l₁₁ l₁₂) t (next t more l e ws′ samew k) (falls t more)))) (λ no.
+        -- the loop is left
         exec ! (𝓣 .C) (𝓣 .Λ) (places codeMir.locals (l₀ ∷ l₁ ∷ l₂ ∷ l₃ ∷ l₄ ∷ l₅ ∷ l₆ ∷ l₇ ∷ l₈ ∷ l₉ ∷ l₁₀ ∷ l₁₁ ∷ l₁₂ ∷ [])) codeMir.t-3 (atRet (places codeMir.locals (l₀ ∷ l₁ ∷ l₂ ∷ l₃ ∷ l₄ ∷ l₅ ∷ l₆ ∷ l₇ ∷ l₈ ∷ l₉ ∷ l₁₀ ∷ l₁₁ ∷ l₁₂ ∷ [])) Post) $
-        assigns ! (of-opd ! (unit-lit !)) (from ! (stop !)) (init ! 28 refl (tt, tt)) $ returns ! (look ! 28 refl) $ forget ! 28 refl $ forget ! 26 refl $ forget ! 24 refl $
-        forget ! 22 refl $ forget ! 20 refl $ forget ! 18 refl $ forget ! 16 refl $ forget ! 12 refl $ move ! (28 ∷ 29 ∷ []) $ free1 ! $ move ! (26 ∷ 27 ∷ []) $ free1 ! $
-        move ! (24 ∷ 25 ∷ []) $ free1 ! $ move ! (22 ∷ 23 ∷ []) $ free1 ! $ move ! (20 ∷ 21 ∷ []) $ free1 ! $ move ! (18 ∷ 19 ∷ []) $ free1 ! $ move ! (16 ∷ 17 ∷ []) $ free1 ! $
-        move ! (14 ∷ 15 ∷ []) $ free1 ! $ move ! (12 ∷ 13 ∷ []) $ free1 ! $ move ! (10 ∷ 11 ∷ []) $ free1 ! $ move ! (8 ∷ 9 ∷ []) $ free1 ! $ move ! (6 ∷ 7 ∷ []) $ free1 ! $
-        move ! (4 ∷ 5 ∷ []) $ free1 ! $ free0 ! $ by ! (exits isused iscount ismember (t .ws) (t .lenw) (ended-at t (nltb→le (t .j) count no))))) start)))))))))))))
+        assigns ! (of-opd ! (unit-lit !)) (from ! (stop !)) (init ! 28 refl (tt, tt)) $
+        -- it returns, and its locals are freed
+        returns ! (look ! 28 refl) $ forget ! 28 refl $ forget ! 26 refl $ forget ! 24 refl $ forget ! 22 refl $ forget ! 20 refl $ forget ! 18 refl $ forget ! 16 refl $ forget ! 12 refl $
+        move ! (28 ∷ 29 ∷ []) $ free1 ! $ move ! (26 ∷ 27 ∷ []) $ free1 ! $ move ! (24 ∷ 25 ∷ []) $ free1 ! $ move ! (22 ∷ 23 ∷ []) $ free1 ! $ move ! (20 ∷ 21 ∷ []) $ free1 ! $
+        move ! (18 ∷ 19 ∷ []) $ free1 ! $ move ! (16 ∷ 17 ∷ []) $ free1 ! $ move ! (14 ∷ 15 ∷ []) $ free1 ! $ move ! (12 ∷ 13 ∷ []) $ free1 ! $ move ! (10 ∷ 11 ∷ []) $ free1 ! $
+        move ! (8 ∷ 9 ∷ []) $ free1 ! $ move ! (6 ∷ 7 ∷ []) $ free1 ! $ move ! (4 ∷ 5 ∷ []) $ free1 ! $ free0 ! $
+        by ! (exits isused iscount ismember (t .ws) (t .lenw) (ended-at t (nltb→le (t .j) count no))))) start)))))))))))))
 
 module _ {M : Type 1} (𝓤 : URA M) (H : Heap 𝓤) (A : Atoms 𝓤) (W : Given 𝓤 H A) (mem : Memory → SProp 𝓤) (run : Routine → Fun 𝓤) (𝓣 : Tables 𝓤 H) (known-put : Triple 𝓤 (𝓣 .C #put-lot) (PutLot 𝓤 H A mem run)) (known-get : Triple 𝓤 (𝓣 .C #lot-at) (LotRead 𝓤 H A mem run)) where
   join-walks : Walks 𝓤 H A f.ended stayed (WpFn 𝓤 H (𝓣 .C) (𝓣 .Λ) code.function) (f.clauses 𝓤 H A mem run)

@@ -19,8 +19,8 @@ use contract.Monad.{Fun}
 use contract.Running.{givenOf, tables, tablesOf}
 use sound.WpLaws.{WpFn-mono}
 use types.Kit.{Given, Item, ‵, _⊛_, ⋆, atRet, _$_, _∵_, !, qed, by, move, keep, split, join, fsplit, fjoin, suffices, frame, done}
-use types.Part.{agg, whole, sub, look-in}
-use types.Run.{look, store, init, forget, stop, hop, fld, from, load, lit, addr, and-then, no-more, of-opd, bin, assigns, assigns-last, land, returns, exec, first, blocks, loops, again, enter, alloc1, alloc0, params1, pass1, pass0, free1, free0}
+use types.Part.{agg, whole}
+use types.Run.{look, store, init, forget, stop, from, lit, and-then, no-more, of-opd, bin, assigns, assigns-last, land, returns, exec, first, blocks, loops, again, enter, alloc1, alloc0, params1, pass1, pass0, free1, free0}
 use denote.Exit.{yes}
 use denote.RattleType.{owns}
 use denote.Laws.{Is}
@@ -49,7 +49,8 @@ use Rattle.history.proofs.work.Taking as Tk
 use Rattle.history.proofs.work.Taking.Laws as Tk′
 use Rattle.history.proofs.work.Cut as Ct
 use Rattle.history.proofs.work.Cut.Laws as Ct′
-use Rattle.history.proofs.Loop.{tests, less, less-wf}
+use Rattle.history.proofs.Loop.{tests, below, next-fits, less, less-wf}
+use Rattle.history.proofs.Locals.{local, part, slice-at}
 use Rattle.history.proofs.Values.{R, Taken, machT, at-list, sv, word, refmut, refm, refi, places, cell, spare}
 use Rattle.history.proofs.LotCalls.{PutLot, puts-lot, LotAt, gets-lot, CutLot, cuts-lot}
 use Rattle.history.proofs.rows.put_lot.Symbol as put-lot-def
@@ -74,12 +75,6 @@ abbrev stayed : Stays (f.ended .signature .params) (f.ended .kept)
 stayed = (stay-slice (0 ∷ []) tt (plain (λ _. T.the-row)), (stay-none (λ _. usize) yes, (stay-slice (1 ∷ []) tt (plain (λ _. T.the-row)), (stay-none (λ _. u64) yes, (stay-none (λ _. u64) yes, (stay-none (λ _. u64) yes, tt))))))
 
 -- ---- numbers
-below : {i n : ℕ} → n < 2 ^ 64 → i < n → i < 2 ^ 64
-below l h = omega arith
-
-next-fits : {i n : ℕ} → n < 2 ^ 64 → i < n → i + 1 < 2 ^ 64
-next-fits l h = omega arith
-
 under : {i k n : ℕ} → n ≤ 1024 → i < n → k ≤ i → k < 1024
 under l h k = omega arith
 
@@ -177,35 +172,41 @@ module _ {M : Type 1} (𝓤 : URA M) (H : Heap 𝓤) (A : Atoms 𝓤) (W : Given
         pass1 ! (init ! 38 refl (tt, (tt, (record { fits = roomwork .0 }, tt)))) $ pass1 ! (init ! 36 refl (tt, record { fits = isused })) $
         pass1 ! (init ! 34 refl (tt, (tt, (record { fits = roomheld .0 }, tt)))) $ pass1 ! (init ! 32 refl (tt, record { fits = ismember })) $
         pass1 ! (init ! 30 refl (tt, record { fits = isasset })) $ pass1 ! (init ! 28 refl (tt, record { fits = isamount })) $ pass0 ! $
-        assigns ! (agg ! (and-then ! (load ! (from ! (stop !)) (look ! 28 refl)) (and-then ! (lit ! tt) (and-then ! (lit ! tt) (no-more !))))) (from ! (stop !)) (init ! 26 refl (LL.lawful Tk.the-type Tk′.the-laws 𝓤 H A W .typed (takingOf amount 0 0) _ (start-is amount isamount) .0)) $
+        -- [what work owns; its token; what held owns; its token; _18; …; and so on to _1; …; room for _0; …]
+        assigns ! (agg ! (and-then ! (local ! 28 refl) (and-then ! (lit ! tt) (and-then ! (lit ! tt) (no-more !))))) (from ! (stop !)) (init ! 26 refl (LL.lawful Tk.the-type Tk′.the-laws 𝓤 H A W .typed (takingOf amount 0 0) _ (start-is amount isamount) .0)) $
         assigns ! (of-opd ! (lit ! tt)) (from ! (stop !)) (init ! 24 refl (tt, record { fits = lit< tt })) $
         first ! $ blocks ! $ loops ! 𝓣 (less μ) (less-wf μ) (I l₀ l₁ l₂ l₃ l₄ l₅ l₆ l₇ l₈ l₉ l₁₀ l₁₁ l₁₂ l₁₃ l₁₄ l₁₅ l₁₆ l₁₇ l₁₈) (λ t.
-        assigns ! (bin ! (load ! (from ! (stop !)) (look ! 24 refl)) (load ! (from ! (stop !)) (look ! 36 refl)) tt) (from ! (stop !)) (init ! 18 refl (tt, tt)) $
-        tests ! (load ! (from ! (stop !)) (look ! 18 refl)) (λ yes. let more : t .i < used = ltb→lt (t .i) used yes in let fits : t .i < 2 ^ 64 = below isused more in
-        let of-s = LL.owed Tk.the-type Tk′.the-laws (t .s) _ (t .is) in
-        assigns ! (addr ! (from ! (fld ! refl (hop ! (look-in ! 38 (sub ! 0 refl (whole !))) (stop !))))) (from ! (stop !)) (init ! 16 refl (tt, tt)) $
-        assigns ! (agg ! (and-then ! (load ! (from ! (stop !)) (look ! 16 refl)) (and-then ! (load ! (from ! (fld ! refl (stop !))) (look-in ! 38 (sub ! 1 refl (whole !)))) (no-more !)))) (from ! (stop !)) (init ! 14 refl (tt, (tt, (record { fits = roomwork .0 }, tt)))) $
-        gets-lot ! bwork owork nwork (t .ws) (t .i) mem run 𝓣 known-get (t .lenw) roomwork fits (λ ν δ. (and-then ! (load ! (from ! (stop !)) (look ! 14 refl)) (and-then ! (load ! (from ! (stop !)) (look ! 24 refl)) (no-more !)))) (λ l e isl.
+        assigns ! (bin ! (local ! 24 refl) (local ! 36 refl) tt) (from ! (stop !)) (init ! 18 refl (tt, tt)) $ tests ! (local ! 18 refl) (λ yes.
+        let more : t .i < used = ltb→lt (t .i) used yes in let fits : t .i < 2 ^ 64 = below isused more in let of-s = LL.owed Tk.the-type Tk′.the-laws (t .s) _ (t .is) in
+        -- the row is read
+        assigns ! (slice-at ! 38 refl refl refl) (from ! (stop !)) (init ! 16 refl (tt, tt)) $
+        assigns ! (agg ! (and-then ! (local ! 16 refl) (and-then ! (part ! 38 1 refl refl refl) (no-more !)))) (from ! (stop !)) (init ! 14 refl (tt, (tt, (record { fits = roomwork .0 }, tt)))) $
+        gets-lot ! bwork owork nwork (t .ws) (t .i) mem run 𝓣 known-get (t .lenw) roomwork fits (λ ν δ. (and-then ! (local ! 14 refl) (and-then ! (local ! 24 refl) (no-more !)))) (λ l e isl.
         land ! (from ! (stop !)) (init ! 22 refl (LL.lawful T.the-type T′.the-laws 𝓤 H A W .typed l _ isl .0)) $
-        cuts-lot ! l member asset (t .s) mem run 𝓣 known-cut isl ismember isasset (t .is) (under req more (t .kept)) (under req more (t .taken)) (and-then ! (load ! (from ! (stop !)) (look ! 23 refl)) (and-then ! (load ! (from ! (stop !)) (look ! 33 refl)) (and-then ! (load ! (from ! (stop !)) (look ! 31 refl)) (and-then ! (load ! (from ! (stop !)) (look ! 27 refl)) (no-more !))))) (λ c f isc.
+        -- it is asked what becomes of it
+        cuts-lot ! l member asset (t .s) mem run 𝓣 known-cut isl ismember isasset (t .is) (under req more (t .kept)) (under req more (t .taken)) (and-then ! (local ! 23 refl) (and-then ! (local ! 33 refl) (and-then ! (local ! 31 refl) (and-then ! (local ! 27 refl) (no-more !))))) (λ c f isc.
         land ! (from ! (stop !)) (init ! 20 refl (LL.lawful Ct.the-type Ct′.the-laws 𝓤 H A W .typed c _ isc .0)) $ let of-c = LL.owed Ct.the-type Ct′.the-laws c _ isc in
-        assigns ! (addr ! (from ! (fld ! refl (hop ! (look-in ! 34 (sub ! 0 refl (whole !))) (stop !))))) (from ! (stop !)) (init ! 10 refl (tt, tt)) $
-        assigns ! (agg ! (and-then ! (load ! (from ! (stop !)) (look ! 10 refl)) (and-then ! (load ! (from ! (fld ! refl (stop !))) (look-in ! 34 (sub ! 1 refl (whole !)))) (no-more !)))) (from ! (stop !)) (init ! 8 refl (tt, (tt, (record { fits = roomheld .0 }, tt)))) $
+        -- a piece is held
+        assigns ! (slice-at ! 34 refl refl refl) (from ! (stop !)) (init ! 10 refl (tt, tt)) $
+        assigns ! (agg ! (and-then ! (local ! 10 refl) (and-then ! (part ! 34 1 refl refl refl) (no-more !)))) (from ! (stop !)) (init ! 8 refl (tt, (tt, (record { fits = roomheld .0 }, tt)))) $
         move ! (2 ∷ 3 ∷ []) $
-        puts-lot ! bheld oheld nheld (t .hs) (t .s .taken) (c .piece) mem run 𝓣 known-put (t .lenh) roomheld (of-s .1 .1 .0 .1) (of-c .0) (λ ν δ. (and-then ! (load ! (from ! (stop !)) (look ! 8 refl)) (and-then ! (load ! (from ! (fld ! refl (stop !))) (look-in ! 26 (sub ! 2 refl (whole !)))) (and-then ! (load ! (from ! (fld ! refl (stop !))) (look-in ! 20 (sub ! 0 refl (whole !)))) (no-more !))))) (λ hs′ sameh g.
+        puts-lot ! bheld oheld nheld (t .hs) (t .s .taken) (c .piece) mem run 𝓣 known-put (t .lenh) roomheld (of-s .1 .1 .0 .1) (of-c .0) (λ ν δ. (and-then ! (local ! 8 refl) (and-then ! (part ! 26 2 refl refl refl) (and-then ! (part ! 20 0 refl refl refl) (no-more !))))) (λ hs′ sameh g.
         land ! (from ! (stop !)) (init ! 12 refl (tt, tt)) $
-        assigns ! (addr ! (from ! (fld ! refl (hop ! (look-in ! 38 (sub ! 0 refl (whole !))) (stop !))))) (from ! (stop !)) (init ! 6 refl (tt, tt)) $
-        assigns ! (agg ! (and-then ! (load ! (from ! (stop !)) (look ! 6 refl)) (and-then ! (load ! (from ! (fld ! refl (stop !))) (look-in ! 38 (sub ! 1 refl (whole !)))) (no-more !)))) (from ! (stop !)) (init ! 4 refl (tt, (tt, (record { fits = roomwork .0 }, tt)))) $
+        -- and a row kept
+        assigns ! (slice-at ! 38 refl refl refl) (from ! (stop !)) (init ! 6 refl (tt, tt)) $
+        assigns ! (agg ! (and-then ! (local ! 6 refl) (and-then ! (part ! 38 1 refl refl refl) (no-more !)))) (from ! (stop !)) (init ! 4 refl (tt, (tt, (record { fits = roomwork .0 }, tt)))) $
         move ! (2 ∷ 3 ∷ []) $
-        puts-lot ! bwork owork nwork (t .ws) (t .s .kept) (c .rest) mem run 𝓣 known-put (t .lenw) roomwork (of-s .1 .0 .1) (of-c .1 .0) (λ ν δ. (and-then ! (load ! (from ! (stop !)) (look ! 4 refl)) (and-then ! (load ! (from ! (fld ! refl (stop !))) (look-in ! 26 (sub ! 1 refl (whole !)))) (and-then ! (load ! (from ! (fld ! refl (stop !))) (look-in ! 20 (sub ! 1 refl (whole !)))) (no-more !))))) (λ ws′ samew k.
+        puts-lot ! bwork owork nwork (t .ws) (t .s .kept) (c .rest) mem run 𝓣 known-put (t .lenw) roomwork (of-s .1 .0 .1) (of-c .1 .0) (λ ν δ. (and-then ! (local ! 4 refl) (and-then ! (part ! 26 1 refl refl refl) (and-then ! (part ! 20 1 refl refl refl) (no-more !))))) (λ ws′ samew k.
         land ! (from ! (stop !)) (store ! 12 refl (tt, tt)) $
-        assigns ! (of-opd ! (load ! (from ! (fld ! refl (stop !))) (look-in ! 20 (sub ! 2 refl (whole !))))) (from ! (stop !)) (store ! 26 refl (LL.lawful Tk.the-type Tk′.the-laws 𝓤 H A W .typed (c .next) _ (of-c .1 .1 .0) .0)) $
-        assigns-last ! (bin ! (load ! (from ! (stop !)) (look ! 24 refl)) (lit ! tt) (record { fits = next-fits isused more })) (from ! (stop !)) (store ! 24 refl (tt, record { fits = next-fits isused more })) $
+        assigns ! (of-opd ! (part ! 20 2 refl refl refl)) (from ! (stop !)) (store ! 26 refl (LL.lawful Tk.the-type Tk′.the-laws 𝓤 H A W .typed (c .next) _ (of-c .1 .1 .0) .0)) $
+        assigns-last ! (bin ! (local ! 24 refl) (lit ! tt) (record { fits = next-fits isused more })) (from ! (stop !)) (store ! 24 refl (tt, record { fits = next-fits isused more })) $
         forget ! 22 refl $ forget ! 20 refl $ forget ! 18 refl $ forget ! 16 refl $ forget ! 14 refl $ forget ! 12 refl $ forget ! 10 refl $ forget ! 8 refl $ forget ! 6 refl $
         forget ! 4 refl $
         again ! (less μ) (I l₀ l₁ l₂ l₃ l₄ l₅ l₆ l₇ l₈ l₉ l₁₀ l₁₁ l₁₂ l₁₃ l₁₄ l₁₅ l₁₆ l₁₇ l₁₈) t (next t more l e c f hs′ ws′ sameh samew g k (of-c .1 .1 .0)) (falls t more)))))) (λ no.
+        -- the loop is left
         exec ! (𝓣 .C) (𝓣 .Λ) (places codeMir.locals (l₀ ∷ l₁ ∷ l₂ ∷ l₃ ∷ l₄ ∷ l₅ ∷ l₆ ∷ l₇ ∷ l₈ ∷ l₉ ∷ l₁₀ ∷ l₁₁ ∷ l₁₂ ∷ l₁₃ ∷ l₁₄ ∷ l₁₅ ∷ l₁₆ ∷ l₁₇ ∷ l₁₈ ∷ [])) codeMir.t-4 (atRet (places codeMir.locals (l₀ ∷ l₁ ∷ l₂ ∷ l₃ ∷ l₄ ∷ l₅ ∷ l₆ ∷ l₇ ∷ l₈ ∷ l₉ ∷ l₁₀ ∷ l₁₁ ∷ l₁₂ ∷ l₁₃ ∷ l₁₄ ∷ l₁₅ ∷ l₁₆ ∷ l₁₇ ∷ l₁₈ ∷ [])) Post) $
-        assigns ! (of-opd ! (load ! (from ! (stop !)) (look ! 26 refl))) (from ! (stop !)) (init ! 40 refl (LL.lawful Tk.the-type Tk′.the-laws 𝓤 H A W .typed (t .s) _ (t .is) .0)) $
+        assigns ! (of-opd ! (local ! 26 refl)) (from ! (stop !)) (init ! 40 refl (LL.lawful Tk.the-type Tk′.the-laws 𝓤 H A W .typed (t .s) _ (t .is) .0)) $
+        -- it returns, and its locals are freed
         returns ! (look ! 40 refl) $ forget ! 40 refl $ forget ! 38 refl $ forget ! 36 refl $ forget ! 34 refl $ forget ! 32 refl $ forget ! 30 refl $ forget ! 28 refl $ forget ! 26 refl $
         forget ! 24 refl $ forget ! 18 refl $ move ! (40 ∷ 41 ∷ []) $ free1 ! $ move ! (38 ∷ 39 ∷ []) $ free1 ! $ move ! (36 ∷ 37 ∷ []) $ free1 ! $ move ! (34 ∷ 35 ∷ []) $ free1 ! $
         move ! (32 ∷ 33 ∷ []) $ free1 ! $ move ! (30 ∷ 31 ∷ []) $ free1 ! $ move ! (28 ∷ 29 ∷ []) $ free1 ! $ move ! (26 ∷ 27 ∷ []) $ free1 ! $ move ! (24 ∷ 25 ∷ []) $ free1 ! $
