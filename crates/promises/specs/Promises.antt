@@ -6,7 +6,7 @@ use mathlib.Core.Bool.{true, false, _&&_, _||_}
 use mathlib.Core.List.{List, [], _∷_, _++_, map}
 use lib.Dec.{leb, eqb}
 use lib.ListN.{length, getD, take, drop}
-use Rattle.promises.specs.Types.{Nonce, Call, Line, Answer}
+use Rattle.promises.specs.Types.{Nonce, Lot, Call, Line, Answer}
 use Rattle.rules.proofs.Facts.{Accepted, Within, Fit}
 use Rattle.rules.specs.Limits.{memberCount, assetCount, domainCount, historyRows, highestField, mostLines}
 use Rattle.rules.specs.Lists.{all, any, joined}
