@@ -14,4 +14,5 @@ pub mod LotCalls
 pub mod TakingCalls
 pub mod ReplayCalls
 pub mod TraceCalls
+pub mod AskCalls
 pub mod Locals

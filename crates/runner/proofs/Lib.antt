@@ -6,3 +6,4 @@ pub mod Pages
 pub mod Parts
 pub mod Room
 pub mod Steps
+pub mod LineCalls

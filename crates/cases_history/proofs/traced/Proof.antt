@@ -47,10 +47,11 @@ use Rattle.rules.proofs.answers.Answer as An
 use Rattle.rules.proofs.answers.Answer.Laws as An′
 use Rattle.history.proofs.Locals.{local, part, slice-at}
 use Rattle.history.proofs.Values.{R, Desks, machK, Nonces, machN, Answers, machA, at-list, sv}
+use Rattle.history.proofs.AskCalls.{Trace, asks-trace}
 use Rattle.cases_history.specs.declared.Seen.{Seen}
 use Rattle.cases_history.proofs.Seen as Sn
 use Rattle.cases_history.proofs.Seen.Laws as Sn′
-use Rattle.cases_history.proofs.Calls.{Seens, machS, Trace, asks-trace, Digest, digests}
+use Rattle.cases_history.proofs.Calls.{Seens, machS, Digest, digests}
 use Rattle.history.proofs.trace.trace.Symbol as trace-def
 use Rattle.history.proofs.trace.trace.Symbol.{name as #trace}
 use Rattle.history.proofs.trace.trace.Met as trace-thm
