@@ -11,6 +11,7 @@ use rules::answers::Answer;
 use rules::answers::Origin;
 use rules::desk::Desk;
 use rules::rows::DepositNumber;
+use rules::rows::Lot;
 use rules::rows::Nonce;
 ghost use Prim.Native.Nat.{_≤_, _<_};
 ghost use lib.ListN.{length};
@@ -204,41 +205,81 @@ fn traces(d: Desk, history: &[u64], work_rows: u64, piece_rows: u64) {
 }
 
 fn trace(d: Desk, history: &[u64], work_rows: u64, piece_rows: u64, n: u64) {
-    let mut work = [7u64; 4096];
-    let mut pieces = [9u64; 4096];
-    let w = (work_rows % 1025) as usize * 4;
-    let p = (piece_rows % 1025) as usize * 4;
-    lent(d, history, &mut work, &mut pieces, w, p, n);
-}
-
-// So many numbers of the two tables are lent.
-fn lent(
-    d: Desk,
-    history: &[u64],
-    work: &mut [u64],
-    pieces: &mut [u64],
-    w: usize,
-    p: usize,
-    n: u64,
-) {
-    if work.len() < w {
-        return;
-    }
-    if pieces.len() < p {
-        return;
-    }
-    traced(d, history, &mut work[..w], &mut pieces[..p], n);
-}
-
-fn traced(d: Desk, history: &[u64], work: &mut [u64], pieces: &mut [u64], n: u64) {
     let inbox = [0u64; 256];
     let outbox = [0u64; 128];
+    let w = (work_rows % 1025) as usize;
+    let p = (piece_rows % 1025) as usize;
     let nonce = Nonce(n);
-    let a = history::trace::trace(d, &inbox, &outbox, history, work, pieces, nonce);
+    let s = lent(d, &inbox, &outbox, history, w, p, nonce);
+    let a = s.answer;
     value(lines::write::reply_number(a));
     value(count(a));
-    value(digest(work));
-    value(digest(pieces));
+    value(s.work);
+    value(s.pieces);
+}
+
+// What a trace gives, with a digest of each lent table afterwards.
+pub struct Seen {
+    pub answer: Answer,
+    pub work: u64,
+    pub pieces: u64,
+}
+
+// So many rows of two tables are lent.
+fn lent(
+    d: Desk,
+    inbox: &[u64],
+    outbox: &[u64],
+    history: &[u64],
+    w: usize,
+    p: usize,
+    n: Nonce,
+) -> Seen
+    requires { ⌜ (w ≤ 1024) × (p ≤ 1024) ⌝ }
+    ensures { λ r. ⌜ (r .work < 1000003) × (r .pieces < 1000003) ⌝ }
+{
+    let mut work = [Lot {
+        member: 7,
+        asset: 7,
+        number: DepositNumber(7),
+        amount: 7,
+    }; 1024];
+    let mut pieces = [Lot {
+        member: 9,
+        asset: 9,
+        number: DepositNumber(9),
+        amount: 9,
+    }; 1024];
+    traced(
+        d,
+        inbox,
+        outbox,
+        history,
+        &mut work[..w],
+        &mut pieces[..p],
+        n,
+    )
+}
+
+fn traced(
+    d: Desk,
+    inbox: &[u64],
+    outbox: &[u64],
+    history: &[u64],
+    work: &mut [Lot],
+    pieces: &mut [Lot],
+    n: Nonce,
+) -> Seen
+    ensures { λ r. ⌜ (r .work < 1000003) × (r .pieces < 1000003) ⌝ }
+{
+    let answer = history::trace::trace(d, inbox, outbox, history, work, pieces, n);
+    let worked = digest(work);
+    let handed = digest(pieces);
+    Seen {
+        answer,
+        work: worked,
+        pieces: handed,
+    }
 }
 
 fn count(a: Answer) -> u64 {
@@ -250,14 +291,31 @@ fn count(a: Answer) -> u64 {
     }
 }
 
-fn digest(t: &[u64]) -> u64
+fn digest(t: &[Lot]) -> u64
     ensures { λ r. ⌜ r < 1000003 ⌝ }
 {
     let mut sum: u64 = 0;
     let mut k: usize = 0;
     while k < t.len() {
-        sum = (sum * 31 + t[k] % 1000003) % 1000003;
+        let l = history::rows::lot_at(t, k);
+        sum = mixed(sum, l);
         k += 1;
     }
     sum
+}
+
+// The digest with a lot's four numbers more.
+fn mixed(sum: u64, l: Lot) -> u64
+    requires { ⌜ sum < 1000003 ⌝ }
+    ensures { λ r. ⌜ r < 1000003 ⌝ }
+{
+    let number = l.number;
+    more(more(more(more(sum, l.member), l.asset), number.0), l.amount)
+}
+
+fn more(sum: u64, x: u64) -> u64
+    requires { ⌜ sum < 1000003 ⌝ }
+    ensures { λ r. ⌜ r < 1000003 ⌝ }
+{
+    (sum * 31 + x % 1000003) % 1000003
 }

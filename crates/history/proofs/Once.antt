@@ -3,11 +3,14 @@ use Prim.Native.Nat.{ℕ}
 use mathlib.Core.Path.{_≡_, sym, ap, _∙_}
 use mathlib.Core.Bool.{Bool}
 use mathlib.Core.List.{List}
+use lib.ListN.{length, getD, set, replicate}
 use Rattle.rules.specs.declared.rows.Nonce.{Nonce}
+use Rattle.rules.specs.declared.rows.Lot.{Lot}
 use Rattle.rules.specs.declared.answers.Answer.{Answer}
 use Rattle.rules.specs.declared.answers.Origin.{Origin}
 use Rattle.rules.specs.State.{Book}
 use Rattle.rules.specs.Replies.{toldOrigin}
+use Rattle.rules.specs.Lots.{noLot}
 use Rattle.rules.specs.Answer.{TraceOutcome, traceAnswer, provenanceAnswer}
 use Rattle.rules.proofs.Told.{told-once, origin-once}
 use Rattle.history.specs.Test.{historyFrame}
@@ -19,8 +22,8 @@ history-in-frame-once t n r r′ p q = p ∙ sym q
 pub provenance-once : (b : Book) (m a : ℕ) (r r′ : Origin) → toldOrigin r ≡ provenanceAnswer b m a → toldOrigin r′ ≡ provenanceAnswer b m a → r ≡ r′
 provenance-once b m a r r′ p q = origin-once r r′ (p ∙ sym q)
 
--- the answer, and every number of both lent tables
-pub trace-once : (b : Book) (work pieces : List ℕ) (n : Nonce) (r r′ : Answer) (w w′ p p′ : List ℕ)
+-- the answer, and every row of both lent tables
+pub trace-once : (b : Book) (work pieces : List Lot) (n : Nonce) (r r′ : Answer) (w w′ p p′ : List Lot)
     → traceOutcomeOf r w p ≡ traceAnswer b work pieces n → traceOutcomeOf r′ w′ p′ ≡ traceAnswer b work pieces n → (r ≡ r′) × (w ≡ w′) × (p ≡ p′)
 trace-once b work pieces n r r′ w w′ p p′ e f =
     let g : traceOutcomeOf r w p ≡ traceOutcomeOf r′ w′ p′ = e ∙ sym f in (
@@ -28,3 +31,13 @@ trace-once b work pieces n r r′ w w′ p p′ e f =
       ap (λ (x : TraceOutcome). x .work) g,
       ap (λ (x : TraceOutcome). x .pieces) g,
     )
+
+-- ---- a lent table of lots
+pub lot-at-once : (lots : List Lot) (i : ℕ) (r r′ : Lot) → r ≡ getD lots i noLot → r′ ≡ getD lots i noLot → r ≡ r′
+lot-at-once lots i r r′ p q = p ∙ sym q
+
+pub put-lot-once : (lots : List Lot) (i : ℕ) (l : Lot) (t t′ : List Lot) → t ≡ set lots i l → t′ ≡ set lots i l → t ≡ t′
+put-lot-once lots i l t t′ p q = p ∙ sym q
+
+pub clear-once : (lots t t′ : List Lot) → t ≡ replicate (length lots) noLot → t′ ≡ replicate (length lots) noLot → t ≡ t′
+clear-once lots t t′ p q = p ∙ sym q

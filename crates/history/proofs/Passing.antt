@@ -7,14 +7,16 @@ use native.Mathlib.Nat.{add-zero}
 use native.Mathlib.Numerals.{add-one}
 use native.Mathlib.Omega.{arith}
 use lib.Dec.{leb, eqb}
-use lib.ListN.{length, getD, set, take, drop, length-set}
-use lib.Seq.{drop-cons, take-set-le, take-suc-set, drop-set-lt}
+use lib.ListN.{length, getD, set, take, drop, length-set, take-append-drop}
+use lib.Seq.{drop-cons, take-set-le, take-suc-set, drop-set-lt, length-take-le}
 use borrow.Author.Tests.{eqb-true}
 use Rattle.rules.specs.declared.rows.Lot.{Lot}
-use Rattle.rules.specs.Lots.{inLine, ofAmount, ofMember, taken, left}
+use Rattle.rules.specs.Lots.{noLot, inLine, ofAmount, ofMember, taken, left}
+use Rattle.rules.specs.Answer.{inFront}
+use Rattle.rules.proofs.Tests.{both}
 use Rattle.history.specs.declared.work.Taking.{Taking}
 use Rattle.history.specs.declared.work.Cut.{Cut}
-use Rattle.history.specs.Working.{noLot, takingOf, cutInto, cutOf, Pass, passOf, passStep, pass, joinedOn}
+use Rattle.history.specs.Working.{takingOf, cutInto, cutOf, Pass, passOf, passStep, pass, joinedOn}
 
 -- ---- one lot
 -- a list of so many lots so far: one lot more, which was written after them, or none
@@ -213,9 +215,50 @@ module _ (m used : ℕ) (held : List Lot) where
       (joined-parts n (j + 1) (set work (used + j) x) (rw length-set (omega arith)) (omega arith)
       ∙ rw (f, take-suc-set work (used + j) x (omega arith), append-assoc (take (used + j) work) (x ∷ []), drop-cons held j noLot (omega arith), add-one j))
 
+  -- the rows after them keep what they had
+  joined-after : (n j : ℕ) (work : List Lot) → drop (used + j + n) (joinedOn m n j used held work) ≡ drop (used + j + n) work
+  unfolding joinedOn
+  joined-after zero j work = refl
+  joined-after (suc n) j work =
+      let x : Lot = ofMember m (getD held j noLot) in
+      let e : used + j + suc n ≡ used + (j + 1) + n = omega arith in
+      rw e (joined-after n (j + 1) (set work (used + j) x) ∙ drop-set-lt (used + (j + 1) + n) work (used + j) x (omega arith))
+
+  pub joined-length : (n j : ℕ) (work : List Lot) → length (joinedOn m n j used held work) ≡ length work
+  unfolding joinedOn
+  joined-length zero j work = refl
+  joined-length (suc n) j work = joined-length n (j + 1) (set work (used + j) (ofMember m (getD held j noLot))) ∙ length-set work (used + j) (ofMember m (getD held j noLot))
+
   pub joined-all : (n : ℕ) (work : List Lot) → used + n ≤ length work → n ≤ length held
       → take (used + n) (joinedOn m n 0 used held work) ≡ take used work ++ map (ofMember m) (take n held)
   joined-all n work w h =
       let e : used + 0 ≡ used = omega arith in
       let j = joined-parts n 0 work (omega arith) (omega arith) in
       rw e at j
+
+-- what is taken from a line is its owner's, so it joins a table of the owner's pieces as it is
+taken-own : (m a x : ℕ) (ls : List Lot) → map (ofMember m) (taken m a x ls) ≡ taken m a x ls
+unfolding taken
+taken-own m a x [] = refl
+taken-own m a x (l ∷ ls) = go (eqb x 0) (inLine m a l) (leb (l .amount) x) refl (taken-own m a x ls) (taken-own m a (x - l .amount) ls)
+  where
+    own : inLine m a l ≡ true → ofMember m l ≡ l
+    own f = rw (← eqb-true (l .member) m (both (eqb (l .member) m) (eqb (l .asset) a) f .0))
+
+    go : (p q r : Bool) → inLine m a l ≡ q → map (ofMember m) (taken m a x ls) ≡ taken m a x ls → map (ofMember m) (taken m a (x - l .amount) ls) ≡ taken m a (x - l .amount) ls
+        → map (ofMember m) (cond p [] (cond q (cond r (l ∷ taken m a (x - l .amount) ls) (ofAmount x l ∷ [])) (taken m a x ls)))
+        ≡ cond p [] (cond q (cond r (l ∷ taken m a (x - l .amount) ls) (ofAmount x l ∷ [])) (taken m a x ls))
+    go true q r f later whole = refl
+    go false false r f later whole = later
+    go false true true f later whole = ap₂ (λ (y : Lot) (ys : List Lot). y ∷ ys) (own f) whole
+    go false true false f later whole = ap (λ (y : Lot). ofAmount x y ∷ []) (own f)
+
+-- pieces that join a table at its first row stand in front of it
+pub joined-in-front : (m a x : ℕ) (ls held out : List Lot) (n : ℕ) → take n held ≡ taken m a x ls → n ≤ length held → n ≤ length out → joinedOn m n 0 0 held out ≡ inFront (taken m a x ls) out
+joined-in-front m a x ls held out n e h o =
+    let count : length (taken m a x ls) ≡ n = ap length (sym e) ∙ length-take-le n held h in
+    let front : take (0 + n) (joinedOn m n 0 0 held out) ≡ taken m a x ls = joined-all m 0 held n out (omega arith) h ∙ ap (map (ofMember m)) e ∙ taken-own m a x ls in
+    let back : drop (0 + 0 + n) (joinedOn m n 0 0 held out) ≡ drop (0 + 0 + n) out = joined-after m 0 held n 0 out in
+    let one : 0 + n ≡ n = omega arith in
+    let two : 0 + 0 + n ≡ n = omega arith in
+    sym (take-append-drop n (joinedOn m n 0 0 held out)) ∙ ap₂ (λ (y z : List Lot). y ++ z) (rw one at front) (rw two at back ∙ ap (λ (k : ℕ). drop k out) (sym count))

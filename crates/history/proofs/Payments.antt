@@ -1,29 +1,36 @@
 -- Where a payment stands among the records, found by counting withdrawals; and the replay up to it.
-use Prim.Native.Nat.{ℕ, _+_, _-_, _≤_, _<_}
+use Prim.Native.Nat.{ℕ, zero, suc, _+_, _-_, _*_, _≤_, _<_}
 use mathlib.Core.Path.{_≡_, refl, sym, ap, _∙_}
 use mathlib.Core.Bool.{Bool, true, false, not, _&&_, cond}
 use mathlib.Core.List.{List, [], _∷_, _++_}
+use native.Mathlib.Nat.{zero-mul}
 use native.Mathlib.Omega.{arith}
 use lib.Dec.{leb, eqb}
-use lib.ListN.{length, getD, take, length-append}
-use lib.Seq.{take-append-seam, getD-append-seam}
+use lib.ListN.{length, getD, take, drop, length-append}
+use lib.Seq.{drop-drop, take-append-seam, getD-append-seam}
 use borrow.Author.Tests.{eqb-true, ne-eqb, le-leb, lt-leb, leb-true, leb-false, not-false}
 use Rattle.rules.specs.declared.rows.Record.{Record}
 use Rattle.rules.specs.declared.rows.Lot.{Lot}
 use Rattle.rules.specs.Lists.{those}
-use Rattle.rules.specs.Tables.{rowsOf, recordShape}
+use Rattle.rules.specs.Tables.{Shape, rowsOf, recordShape}
 use Rattle.rules.specs.History.{isWithdrawal, withdrawals}
 use Rattle.rules.specs.Lots.{takenBy, lotsAfter, replay, traceFrom}
-use Rattle.rules.proofs.Laying.{length-rows, take-rows}
+use Rattle.rules.proofs.Laying.{length-rows, take-rows, more}
 use Rattle.rules.proofs.Tests.{both}
 use Rattle.tables.proofs.Rest.{rowAt, rest, rest-all, rest-step, rest-end}
 use Rattle.lots.specs.Traces.{beforePayment, afterPayment, nthWithdrawal, PaymentAt}
 use Rattle.lots.proofs.TraceLaws.{payment-at, pieces-at}
 use Rattle.lots.proofs.LotCounts.{replay-count}
-use Rattle.history.specs.Working.{live, CanReplay, Replays}
+use Rattle.history.specs.Working.{CanReplay, Replays}
 use Rattle.history.specs.Tracing.{CanReplayAll, ReplaysAll}
 use Rattle.history.proofs.Counting.{rows-last}
-use Rattle.history.proofs.LotTables.{getD-rows}
+
+-- a row of the rows is the row of the table
+getD-rows : {A : Type 0} (shape : Shape A) (n i : ℕ) (t : List ℕ) (d : A) → i < n → getD (rowsOf shape n t) i d ≡ rowAt shape i t
+unfolding rowsOf
+getD-rows shape zero i t d h = absurd (omega arith)
+getD-rows shape (suc n) zero t d h = ap (λ (k : ℕ). shape .row (take (shape .width) (drop k t))) (sym (zero-mul (shape .width)))
+getD-rows shape (suc n) (suc i) t d h = getD-rows shape n i (drop (shape .width) t) d (omega arith) ∙ ap (λ (u : List ℕ). shape .row (take (shape .width) u)) (drop-drop (i * shape .width) (shape .width) t ∙ ap (λ (k : ℕ). drop k t) (sym (more i (shape .width))))
 
 -- ---- the loop that counts
 module _ (t : List ℕ) (records n : ℕ) where
@@ -118,21 +125,21 @@ replay-last (x ∷ h) r ls = replay-last h r (lotsAfter ls x)
 replay-rows : (t : List ℕ) (i : ℕ) → replay [] (rowsOf recordShape (i + 1) t) ≡ lotsAfter (replay [] (rowsOf recordShape i t)) (rowAt recordShape i t)
 replay-rows t i = ap (replay []) (rows-last i t) ∙ replay-last (rowsOf recordShape i t) (rowAt recordShape i t) []
 
-pub replay-none : (t work : List ℕ) → ReplaysAll 0 t 0 work
+pub replay-none : (t : List ℕ) (work : List Lot) → ReplaysAll 0 t 0 work
 unfolding replay rowsOf
 replay-none t work = record { lots = refl; count = refl }
 
 -- never more lots than records
-pub few-lots : (t : List ℕ) (i n : ℕ) (work : List ℕ) → ReplaysAll i t n work → n ≤ i
+pub few-lots : (t : List ℕ) (i n : ℕ) (work : List Lot) → ReplaysAll i t n work → n ≤ i
 few-lots t i n work a = omega (arith, a .count, replay-count (rowsOf recordShape i t), length-rows recordShape i t)
 
-pub replay-more : (t : List ℕ) (i used : ℕ) (work : List ℕ) → ReplaysAll i t used work → (r : Record) → r ≡ rowAt recordShape i t → (n : ℕ) (after : List ℕ) → Replays r used work n after → ReplaysAll (i + 1) t n after
+pub replay-more : (t : List ℕ) (i used : ℕ) (work : List Lot) → ReplaysAll i t used work → (r : Record) → r ≡ rowAt recordShape i t → (n : ℕ) (after : List Lot) → Replays r used work n after → ReplaysAll (i + 1) t n after
 replay-more t i used work a r e n after q =
-    let s : lotsAfter (live used work) r ≡ replay [] (rowsOf recordShape (i + 1) t) = rw (a .lots, e) (sym (replay-rows t i)) in
+    let s : lotsAfter (take used work) r ≡ replay [] (rowsOf recordShape (i + 1) t) = rw (a .lots, e) (sym (replay-rows t i)) in
     record { lots = q .lots ∙ s; count = q .count ∙ ap length s }
 
 -- there is room for one record more
-pub can-replay : (t work₀ held₀ : List ℕ) (at i used : ℕ) (work held : List ℕ) → CanReplayAll at t work₀ held₀ → i < at → length work ≡ length work₀ → length held ≡ length held₀ → ReplaysAll i t used work → CanReplay used work held
+pub can-replay : (t : List ℕ) (work₀ held₀ : List Lot) (at i used : ℕ) (work held : List Lot) → CanReplayAll at t work₀ held₀ → i < at → length work ≡ length work₀ → length held ≡ length held₀ → ReplaysAll i t used work → CanReplay used work held
 can-replay t work₀ held₀ at i used work held can l p q a =
     let few : used ≤ i = few-lots t i used work a in
     record { few = omega (arith, can .few); room = rw p (omega (arith, can .room)); scratch = rw q (can .scratch) }

@@ -1,21 +1,21 @@
 -- What trace's parts rest on and come to: the number it gives, a replay up to a payment, and the pieces handed out.
-use Prim.Native.Nat.{ℕ, _*_, _/_, _≤_, _<_}
+use Prim.Native.Nat.{ℕ, _*_, _≤_, _<_}
 use mathlib.Core.Path.{_≡_}
 use mathlib.Core.List.{List, [], _∷_}
-use lib.ListN.{length, replicate}
+use lib.ListN.{length, take, replicate}
 use Rattle.rules.specs.declared.rows.Nonce.{Nonce}
+use Rattle.rules.specs.declared.rows.Lot.{Lot}
 use Rattle.rules.specs.declared.answers.Answer.{Answer}
-use Rattle.rules.specs.Tables.{rowsOf, lay, recordShape, lotShape}
+use Rattle.rules.specs.Tables.{rowsOf, recordShape}
 use Rattle.rules.specs.State.{Book, view}
 use Rattle.rules.specs.Replies.{told, smallest}
 use Rattle.rules.specs.Refusals.{traceRefusals}
 use Rattle.rules.specs.History.{withdrawals}
-use Rattle.rules.specs.Lots.{replay, traceFrom}
-use Rattle.rules.specs.Answer.{badHistory, TraceOutcome}
-use Rattle.history.specs.Working.{live}
+use Rattle.rules.specs.Lots.{noLot, replay, traceFrom}
+use Rattle.rules.specs.Answer.{badHistory, TraceOutcome, inFront}
 
 -- what trace answers and leaves of its two tables
-abbrev pub traceOutcomeOf : Answer → List ℕ → List ℕ → TraceOutcome
+abbrev pub traceOutcomeOf : Answer → List Lot → List Lot → TraceOutcome
 traceOutcomeOf r work pieces = record { reply = told r; work = work; pieces = pieces }
 
 -- the number that a trace gets with tables of these many rows
@@ -23,28 +23,28 @@ unfoldable pub traceNumberFor : Book → ℕ → ℕ → Nonce → ℕ
 traceNumberFor b workRows pieceRows n = smallest (badHistory b ∷ traceRefusals workRows pieceRows (view b) n)
 
 -- so many records can be replayed: they lie in the table, and there is a row for a lot of each
-pub record CanReplayAll (at : ℕ) (history work held : List ℕ) : Type 0 where
+pub record CanReplayAll (at : ℕ) (history : List ℕ) (work held : List Lot) : Type 0 where
   pub few : at ≤ 1024
   pub lie : at * 5 ≤ length history
-  pub room : at ≤ length work / 4
-  pub scratch : 1024 ≤ length held / 4
+  pub room : at ≤ length work
+  pub scratch : 1024 ≤ length held
 
 -- the lots after them, and how many
-pub record ReplaysAll (at : ℕ) (history : List ℕ) (n : ℕ) (work : List ℕ) : Type 0 where
-  pub lots : live n work ≡ replay [] (rowsOf recordShape at history)
+pub record ReplaysAll (at : ℕ) (history : List ℕ) (n : ℕ) (work : List Lot) : Type 0 where
+  pub lots : take n work ≡ replay [] (rowsOf recordShape at history)
   pub count : n ≡ length (replay [] (rowsOf recordShape at history))
 
 -- payment n can be traced: it is there, and every table has a row for each record
-pub record CanTrace (history : List ℕ) (records n : ℕ) (work held pieces : List ℕ) : Type 0 where
+pub record CanTrace (history : List ℕ) (records n : ℕ) (work held pieces : List Lot) : Type 0 where
   pub few : records ≤ 1024
   pub lie : records * 5 ≤ length history
-  pub room : records ≤ length work / 4
-  pub places : records ≤ length pieces / 4
-  pub scratch : 1024 ≤ length held / 4
+  pub room : records ≤ length work
+  pub places : records ≤ length pieces
+  pub scratch : 1024 ≤ length held
   pub paid : n < withdrawals (rowsOf recordShape records history)
 
--- the piece count, the work table all zeros, and the pieces laid into theirs
-pub record Traces (history : List ℕ) (records n : ℕ) (work pieces : List ℕ) (count : ℕ) (cleared laid : List ℕ) : Type 0 where
+-- the piece count, the work table all zeros, and the pieces in front of theirs
+pub record Traces (history : List ℕ) (records n : ℕ) (work pieces : List Lot) (count : ℕ) (cleared laid : List Lot) : Type 0 where
   pub counts : count ≡ length (traceFrom [] n (rowsOf recordShape records history))
-  pub clears : cleared ≡ replicate (length work) 0
-  pub lays : laid ≡ lay lotShape (traceFrom [] n (rowsOf recordShape records history)) 0 pieces
+  pub clears : cleared ≡ replicate (length work) noLot
+  pub lays : laid ≡ inFront (traceFrom [] n (rowsOf recordShape records history)) pieces

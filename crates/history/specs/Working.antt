@@ -1,5 +1,5 @@
--- The loops over a table of lots, said as they go, over the table's rows; and what one record's replay leaves of the lots.
-use Prim.Native.Nat.{ℕ, zero, suc, _+_, _-_, _/_, _≤_, _<_}
+-- The loops over a table of lots, said as they go; and what one record's replay leaves of the lots.
+use Prim.Native.Nat.{ℕ, zero, suc, _+_, _-_, _≤_, _<_}
 use mathlib.Core.Path.{_≡_}
 use mathlib.Core.Bool.{not, _||_, cond}
 use mathlib.Core.List.{List}
@@ -7,18 +7,9 @@ use lib.Dec.{leb, eqb}
 use lib.ListN.{length, getD, set, take}
 use Rattle.rules.specs.declared.rows.Record.{Record}
 use Rattle.rules.specs.declared.rows.Lot.{Lot}
-use Rattle.rules.specs.Tables.{rowsOf, lotShape}
-use Rattle.rules.specs.Lots.{inLine, ofAmount, ofMember, lotsAfter}
+use Rattle.rules.specs.Lots.{noLot, inLine, ofAmount, ofMember, lotsAfter}
 use Rattle.history.specs.declared.work.Taking.{Taking}
 use Rattle.history.specs.declared.work.Cut.{Cut}
-
--- what stands past the end of a table
-abbrev pub noLot : Lot
-noLot = record { member = 0; asset = 0; number = record { 0 = 0 }; amount = 0 }
-
--- the rows of a table of lots: all whole ones
-unfoldable pub lotsIn : List ℕ → List Lot
-lotsIn t = rowsOf lotShape (length t / 4) t
 
 -- ---- taking
 abbrev pub takingOf : ℕ → ℕ → ℕ → Taking
@@ -61,16 +52,12 @@ joinedOn m (suc n) j used held work = joinedOn m n (j + 1) used held (set work (
 
 -- ---- one record
 -- there is a row for one lot more, and the held table has one for each that a taking can take
-pub record CanReplay (used : ℕ) (work held : List ℕ) : Type 0 where
+pub record CanReplay (used : ℕ) (work held : List Lot) : Type 0 where
   pub few : used < 1024
-  pub room : used < length work / 4
-  pub scratch : 1024 ≤ length held / 4
+  pub room : used < length work
+  pub scratch : 1024 ≤ length held
 
--- the lots that lie in the used rows
-abbrev pub live : ℕ → List ℕ → List Lot
-live used t = take used (lotsIn t)
-
--- the lots are what the rules make of them, and so many
-pub record Replays (r : Record) (used : ℕ) (work : List ℕ) (n : ℕ) (left : List ℕ) : Type 0 where
-  pub lots : live n left ≡ lotsAfter (live used work) r
-  pub count : n ≡ length (lotsAfter (live used work) r)
+-- the lots are what the rules make of those in the used rows, and so many
+pub record Replays (r : Record) (used : ℕ) (work : List Lot) (n : ℕ) (left : List Lot) : Type 0 where
+  pub lots : take n left ≡ lotsAfter (take used work) r
+  pub count : n ≡ length (lotsAfter (take used work) r)

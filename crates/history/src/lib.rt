@@ -3,5 +3,8 @@
 pub mod frame;
 pub mod origin;
 mod records;
+mod refusals;
+mod replay;
+pub mod rows;
 pub mod trace;
 mod work;

@@ -1,27 +1,27 @@
 -- The two ways in which a trace is said are one: what a line of calls gets, and what the lent tables get, where both tables have a row for each record that a history can have.
-use Prim.Native.Nat.{ℕ, zero, suc, _/_, _≤_}
+use Prim.Native.Nat.{ℕ, zero, suc, _≤_}
 use mathlib.Core.Path.{_≡_, refl, sym, _∙_}
 use mathlib.Core.Bool.{Bool, true, false, not, _||_, and-eq-true-iff}
 use mathlib.Core.List.{List, [], _∷_}
 use native.Mathlib.Omega.{arith}
 use lib.Dec.{leb, ltb}
-use lib.ListN.{length, getD}
+use lib.ListN.{length, getD, take, drop}
+use lib.Seq.{take-append-seam}
 use borrow.Author.Tests.{leb-true, le-ltb}
 use Rattle.rules.specs.declared.rows.Nonce.{Nonce}
 use Rattle.rules.specs.declared.rows.Lot.{Lot}
 use Rattle.rules.specs.declared.calls.Call.{Call}
 use Rattle.rules.specs.Limits.{historyRows}
 use Rattle.rules.specs.Lists.{ands}
-use Rattle.rules.specs.Tables.{rowsOf, lay, recordShape, lotShape}
+use Rattle.rules.specs.Tables.{recordShape}
 use Rattle.rules.specs.State.{Book, view, historyOf}
 use Rattle.rules.specs.Replies.{numberOf, smallest, if-done}
 use Rattle.rules.specs.Refusals.{refusals, traceRefusals}
 use Rattle.rules.specs.Frame.{inFrame}
 use Rattle.rules.specs.History.{withdrawals, historyInFrame}
 use Rattle.rules.specs.Lots.{pieces}
-use Rattle.rules.specs.Answer.{frameTest, replyNumber, piecesOf, doneAnswer, answer, traceNumber, traceAnswer}
-use Rattle.rules.proofs.Laying.{length-rows, rows-laid}
-use Rattle.rules.proofs.Shapes.{lotSound}
+use Rattle.rules.specs.Answer.{frameTest, replyNumber, piecesOf, doneAnswer, answer, inFront, traceNumber, traceAnswer}
+use Rattle.rules.proofs.Laying.{length-rows}
 
 -- where all of these hold, each does
 ands-at : (ts : List Bool) (k : ℕ) → ands ts ≡ true → getD ts k true ≡ true
@@ -47,7 +47,7 @@ frame-first false false = refl
 no-table-small : (b : Book) (rows : ℕ) → inFrame b ≡ true → historyRows ≤ rows → ltb rows (length (historyOf b)) ≡ false
 no-table-small b rows h l = le-ltb rows (length (historyOf b)) (omega (arith, records-fit b h))
 
-module _ (b : Book) (work out : List ℕ) (n : Nonce) (w : historyRows ≤ length work / lotShape .width) (o : historyRows ≤ length out / lotShape .width) where
+module _ (b : Book) (work out : List Lot) (n : Nonce) (w : historyRows ≤ length work) (o : historyRows ≤ length out) where
   -- the two give the same number
   pub trace-number : replyNumber b (Call.Trace n) ≡ traceNumber b work out n
   unfolding replyNumber traceNumber frameTest refusals traceRefusals view numberOf
@@ -61,9 +61,9 @@ module _ (b : Book) (work out : List ℕ) (n : Nonce) (w : historyRows ≤ lengt
 
       go : (t : Bool) → inFrame b ≡ t → (u : Bool)
           → smallest ((2, not t || not u) ∷ (20, small historyRows historyRows) ∷ (21, missing) ∷ [])
-          ≡ smallest ((2, not t || not u) ∷ (20, small (length work / 4) (length out / 4)) ∷ (21, missing) ∷ [])
-      go true e u = rw (no-table-small b historyRows e (omega arith), no-table-small b (length work / 4) e w, no-table-small b (length out / 4) e o)
-      go false e u = frame-first (small historyRows historyRows) missing ∙ sym (frame-first (small (length work / 4) (length out / 4)) missing)
+          ≡ smallest ((2, not t || not u) ∷ (20, small (length work) (length out)) ∷ (21, missing) ∷ [])
+      go true e u = rw (no-table-small b historyRows e (omega arith), no-table-small b (length work) e w, no-table-small b (length out) e o)
+      go false e u = frame-first (small historyRows historyRows) missing ∙ sym (frame-first (small (length work) (length out)) missing)
 
   -- so the reply is the same
   pub trace-reply : answer b (Call.Trace n) .reply ≡ traceAnswer b work out n .reply
@@ -71,13 +71,13 @@ module _ (b : Book) (work out : List ℕ) (n : Nonce) (w : historyRows ≤ lengt
   trace-reply = rw trace-number
 
   -- and the first rows of the pieces' table, as many as there are pieces, are the pieces; where the reply is a refusal there are none
-  pub trace-pieces : rowsOf lotShape (length (answer b (Call.Trace n) .pieces)) (traceAnswer b work out n .pieces) ≡ answer b (Call.Trace n) .pieces
+  pub trace-pieces : take (length (answer b (Call.Trace n) .pieces)) (traceAnswer b work out n .pieces) ≡ answer b (Call.Trace n) .pieces
   unfolding answer traceAnswer piecesOf view
   trace-pieces = rw (← trace-number) (go (replyNumber b (Call.Trace n)))
     where
       ps : List Lot
       ps = pieces (historyOf b) n
 
-      go : (k : ℕ) → rowsOf lotShape (length (if-done k ps [])) (if-done k (lay lotShape ps 0 out) out) ≡ if-done k ps []
-      go zero = rows-laid lotShape lotSound ps 0 out
-      go (suc k) = unfold rowsOf in refl
+      go : (k : ℕ) → take (length (if-done k ps [])) (if-done k (inFront ps out) out) ≡ if-done k ps []
+      go zero = take-append-seam ps (drop (length ps) out)
+      go (suc k) = refl

@@ -10,6 +10,7 @@ use Rattle.rules.specs.Replies.{plain}
 use Rattle.rules.specs.Effects.{balance, holder, total}
 use Rattle.rules.specs.Frame.{inFrame}
 use Rattle.rules.specs.History.{provenanceOf, historyInFrame}
+use Rattle.rules.specs.Lots.{noLot}
 use Rattle.rules.specs.Answer.{answer, traceAnswer, provenanceAnswer}
 use Rattle.rules.specs.Runs.{run, deposits, sends, settlements, sentAfter}
 use Rattle.rules.specs.Sheet.{acceptedDeposits, settledSum, unclaimedSum, balancesSum, outboxSum, chainTotal}
@@ -35,7 +36,7 @@ pub two-apply : (applying emptyBook (transfer 2 2 3 5) ≡ 8 ∷ 14 ∷ []) × (
 unfolding compute
 two-apply = (refl, refl)
 
-pub table-small : traceAnswer (run emptyBook worked) (replicate 28 0) (replicate 32 0) (record { 0 = 0 }) .reply ≡ plain 20
+pub table-small : traceAnswer (run emptyBook worked) (replicate 7 noLot) (replicate 8 noLot) (record { 0 = 0 }) .reply ≡ plain 20
 unfolding compute worked threePayments
 table-small = refl
 

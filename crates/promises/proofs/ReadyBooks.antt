@@ -1,5 +1,5 @@
 -- What a ready book answers: never 2 BadBook; and what it keeps, by its history.
-use Prim.Native.Nat.{ℕ, _/_}
+use Prim.Native.Nat.{ℕ}
 use mathlib.Core.Path.{_≡_, refl, sym}
 use mathlib.Core.Logic.{_≢_}
 use mathlib.Core.Bool.{Bool, true, false, not}
@@ -76,7 +76,7 @@ in-frame b r =
       noBadCall = λ c. rw (reply-number b c) (never-two (frameTest b c) (refusals (view b) c) (frame-passes b c (r .frame) h) (no-two (view b) c));
       noBadTrace = λ work out n.
           rw (reply-with (traceNumber b work out n) (told (Answer.Traced (length (pieces (historyOf b) n)))) refl)
-          (never-two (badHistory b) (traceRefusals (length work / 4) (length out / 4) (view b) n) tested refl);
+          (never-two (badHistory b) (traceRefusals (length work) (length out) (view b) n) tested refl);
       noBadQuestion = λ m a.
           rw (reply-with (provenanceNumber b m a) (toldOrigin (Origin.Amount (provenanceOf m a (historyOf b)))) refl) (never-two (badHistory b) (badMember m ∷ badAsset a ∷ []) tested refl);
     }

@@ -1,16 +1,15 @@
 -- What is promised, in the order of the demands, from top to bottom. Each promise is said in words and then exactly; the words that it cites are those of the rules (crate rules; what an accepted call rests on: its proofs/Facts), of traces (crate lots), of the book runner (crate runner), and of Demand1, Demand2 and Carried beside this page.
-use Prim.Native.Nat.{ℕ, _+_, _/_, _≤_, _<_}
+use Prim.Native.Nat.{ℕ, _+_, _≤_, _<_}
 use mathlib.Core.Path.{_≡_}
 use mathlib.Core.Logic.{_≢_, _↔_}
 use mathlib.Core.Bool.{true, false, _&&_, _||_}
 use mathlib.Core.List.{List, [], _∷_, _++_, map}
 use lib.Dec.{leb, eqb}
 use lib.ListN.{length, getD, take, drop}
-use Rattle.promises.specs.Types.{Nonce, Call, Line, Answer}
+use Rattle.promises.specs.Types.{Nonce, Lot, Call, Line, Answer}
 use Rattle.rules.proofs.Facts.{Accepted, Within, Fit}
 use Rattle.rules.specs.Limits.{memberCount, assetCount, domainCount, historyRows, highestField, mostLines}
 use Rattle.rules.specs.Lists.{all, any, joined}
-use Rattle.rules.specs.Tables.{rowsOf, lotShape}
 use Rattle.rules.specs.State.{Book, Empty, view, historyOf, emptyBook}
 use Rattle.rules.specs.Replies.{told, plain}
 use Rattle.rules.specs.Effects.{effect, balance, holder, total, oldest, recordsOf}
@@ -111,7 +110,7 @@ pub record InFrame (b : Book) : Type 0 where
   pub book : inFrame b ≡ true
   pub history : historyInFrame (historyOf b) ≡ true
   pub noBadCall : (c : Call) → answer b c .reply .number ≢ 2
-  pub noBadTrace : (work out : List ℕ) (n : Nonce) → traceAnswer b work out n .reply .number ≢ 2
+  pub noBadTrace : (work out : List Lot) (n : Nonce) → traceAnswer b work out n .reply .number ≢ 2
   pub noBadQuestion : (m a : ℕ) → provenanceAnswer b m a .number ≢ 2
 
 -- the call is accepted exactly if its facts hold (Facts): fields in their limits, the next number, enough, the holder, room; and what an accepted call leaves is its effect
@@ -172,9 +171,9 @@ pub record PaymentTraced (b : Book) (cs : List Call) (n : Nonce) : Type 0 where
   pub oldestFirst : coins (traced b cs n)
       ≡ take (recordOf b cs n .amount) (coinsIn (beforePayment (n .0) (historyOf (run b cs))) (recordOf b cs n .first) (recordOf b cs n .asset))
   -- a trace that is lent its two tables gives the same reply, and the same pieces in the first rows of theirs
-  pub lent : (work out : List ℕ) → historyRows ≤ length work / lotShape .width → historyRows ≤ length out / lotShape .width
+  pub lent : (work out : List Lot) → historyRows ≤ length work → historyRows ≤ length out
       → (traceAnswer (run b cs) work out n .reply ≡ answer (run b cs) (Call.Trace n) .reply)
-      × (rowsOf lotShape (length (traced b cs n)) (traceAnswer (run b cs) work out n .pieces) ≡ traced b cs n)
+      × (take (length (traced b cs n)) (traceAnswer (run b cs) work out n .pieces) ≡ traced b cs n)
 
 -- after any calls from an empty book
 pub record Demand2 (b : Book) (cs : List Call) : Type 0 where

@@ -6,9 +6,9 @@ use native.Mathlib.Nat.{suc-mul, zero-mul, one-mul, zero-add, suc-add, add-comm,
 use native.Mathlib.Omega.{arith}
 use lib.ListN.{length, getD, take, drop, set, replicate, length-append, length-drop, length-set, length-take}
 use lib.Seq.{take-add, take-at, drop-at, drop-drop, take-all, length-take-le, set-split, take-append-le}
-use Rattle.rules.specs.Types.{Deposit, Payment, Record, Lot}
+use Rattle.rules.specs.Types.{Deposit, Payment, Record}
 use Rattle.rules.specs.Lists.{joined}
-use Rattle.rules.specs.Tables.{Shape, Sound, Edit, rowsOf, lay, edited, splice, withoutRow, editedTable, HasRoom, depositShape, paymentShape, recordShape, lotShape}
+use Rattle.rules.specs.Tables.{Shape, Sound, Edit, rowsOf, lay, edited, splice, withoutRow, editedTable, HasRoom, depositShape, paymentShape, recordShape}
 
 pub joined-append : {A B : Type 0} (f : A → List B) (xs ys : List A) → joined f (xs ++ ys) ≡ joined f xs ++ joined f ys
 unfolding joined

@@ -1,11 +1,11 @@
--- The four shapes are sound, so the layout laws hold of every table; and a book's state is what was laid.
+-- The three shapes are sound, so the layout laws hold of every table; and a book's state is what was laid.
 use Prim.Native.Nat.{ℕ}
 use mathlib.Core.Path.{_≡_, refl}
 use mathlib.Core.List.{List, [], _∷_, _++_}
 use native.Mathlib.Omega.{arith}
 use lib.ListN.{length, getD, take, drop}
 use lib.Seq.{take-append-seam, drop-append-seam}
-use Rattle.rules.specs.Tables.{Sound, depositShape, paymentShape, recordShape, lotShape}
+use Rattle.rules.specs.Tables.{Sound, depositShape, paymentShape, recordShape}
 use Rattle.rules.specs.State.{State, Book, view, deskOf, laid, payments}
 use Rattle.rules.proofs.Laying.{rows-laid}
 
@@ -35,9 +35,6 @@ paymentSound = record { wide = λ a. refl; back = λ a. refl; forth = four-back 
 
 pub recordSound : Sound recordShape
 recordSound = record { wide = λ a. refl; back = λ a. refl; forth = five-back }
-
-pub lotSound : Sound lotShape
-lotSound = record { wide = λ a. refl; back = λ a. refl; forth = four-back }
 
 -- the view of what was laid is the state that was laid
 pub view-laid : (s : State) (b : Book) → view (laid s b) ≡ s

@@ -1,18 +1,16 @@
 -- What every call answers and leaves, on every book: out of frame comes first, a refusal leaves everything as found, and what is done is laid back into the tables.
-use Prim.Native.Nat.{ℕ, zero, suc, _+_, _-_, _*_, _/_}
-use mathlib.Core.Bool.{Bool, true, not, _&&_, _||_, cond}
+use Prim.Native.Nat.{ℕ, _+_, _-_}
+use mathlib.Core.Bool.{Bool, not, _||_}
 use mathlib.Core.List.{List, [], _∷_, _++_}
-use lib.ListN.{length, replicate}
+use lib.ListN.{length, drop, replicate}
 use Rattle.rules.specs.Types.{Nonce, Lot, Refusal, Call, Answer, Answered, Origin, Desk}
-use Rattle.rules.specs.Limits.{historyRows}
-use Rattle.rules.specs.Tables.{Shape, lay, lotShape}
 use Rattle.rules.specs.State.{State, Book, view, laid, historyOf}
 use Rattle.rules.specs.Replies.{Reply, told, toldOrigin, refuse, smallest, if-done}
 use Rattle.rules.specs.Refusals.{refusals, traceRefusals, badMember, badAsset}
 use Rattle.rules.specs.Effects.{effect, oldest}
 use Rattle.rules.specs.Frame.{inFrame}
 use Rattle.rules.specs.History.{historyInFrame, provenanceOf}
-use Rattle.rules.specs.Lots.{pieces}
+use Rattle.rules.specs.Lots.{noLot, pieces}
 
 -- 2 BadBook: the book is out of frame; "for provenance and trace also" its history
 abbrev pub badBook : Book → ℕ × Bool
@@ -88,18 +86,22 @@ answer b c =
 -- ---- trace, lent its two tables: the pieces fill the first rows of theirs, "the rest keep what they had, and every row of the work table ends as zeros"
 pub record TraceOutcome : Type 0 where
   pub reply : Reply
-  pub work : List ℕ
-  pub pieces : List ℕ
+  pub work : List Lot
+  pub pieces : List Lot
 
-unfoldable pub traceNumber : Book → List ℕ → List ℕ → Nonce → ℕ
-traceNumber b work out n = smallest (badHistory b ∷ traceRefusals (length work / lotShape .width) (length out / lotShape .width) (view b) n)
+-- rows in front of a table, in place of its own first ones
+abbrev pub inFront : List Lot → List Lot → List Lot
+inFront ps out = ps ++ drop (length ps) out
 
-unfoldable pub traceAnswer : Book → List ℕ → List ℕ → Nonce → TraceOutcome
+unfoldable pub traceNumber : Book → List Lot → List Lot → Nonce → ℕ
+traceNumber b work out n = smallest (badHistory b ∷ traceRefusals (length work) (length out) (view b) n)
+
+unfoldable pub traceAnswer : Book → List Lot → List Lot → Nonce → TraceOutcome
 traceAnswer b work out n =
     record {
       reply = replyWith (traceNumber b work out n) (told (Answer.Traced (length (pieces (historyOf b) n))));
-      work = if-done (traceNumber b work out n) (replicate (length work) 0) work;
-      pieces = if-done (traceNumber b work out n) (lay lotShape (pieces (historyOf b) n) 0 out) out;
+      work = if-done (traceNumber b work out n) (replicate (length work) noLot) work;
+      pieces = if-done (traceNumber b work out n) (inFront (pieces (historyOf b) n) out) out;
     }
 
 -- ---- provenance, a library question: replies 0 with the number, 2, 3, 4

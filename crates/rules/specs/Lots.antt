@@ -8,6 +8,10 @@ use Rattle.rules.specs.Types.{DepositNumber, Nonce, Record, Lot}
 use Rattle.rules.specs.Lists.{those}
 use Rattle.rules.specs.History.{Kind, kindOf, isWithdrawal}
 
+-- a row of zeros: what a cleared table holds, and what stands past the end of one
+abbrev pub noLot : Lot
+noLot = record { member = 0; asset = 0; number = record { 0 = 0 }; amount = 0 }
+
 abbrev pub inLine : ℕ → ℕ → Lot → Bool
 inLine m a l = eqb (l .member) m && eqb (l .asset) a
 

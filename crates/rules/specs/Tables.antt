@@ -3,7 +3,7 @@ use Prim.Native.Nat.{ℕ, zero, suc, _+_, _-_, _*_, _≤_, _<_, max}
 use mathlib.Core.Path.{_≡_}
 use mathlib.Core.List.{List, [], _∷_, _++_}
 use lib.ListN.{length, getD, take, drop, set, replicate}
-use Rattle.rules.specs.Types.{DepositNumber, Nonce, Deposit, Payment, Record, Lot}
+use Rattle.rules.specs.Types.{DepositNumber, Nonce, Deposit, Payment, Record}
 use Rattle.rules.specs.Lists.{joined}
 
 -- how a kind of row lies: its width, its numbers one after the other, and the row that such numbers are read as
@@ -67,7 +67,7 @@ HasRoom shape (Edit.add a) n t = suc n * shape .width ≤ length t
 HasRoom shape (Edit.takeOut i) n t = (i < n) × (n * shape .width ≤ length t)
 HasRoom shape (Edit.change i a) n t = (i < n) × (n * shape .width ≤ length t)
 
--- ---- the four kinds of row
+-- ---- the three kinds of row
 -- number, asset, amount, member
 abbrev pub depositShape : Shape Deposit
 depositShape =
@@ -93,13 +93,4 @@ recordShape =
       width = 5;
       flat = λ r. r .kind ∷ r .asset ∷ r .amount ∷ r .first ∷ r .second ∷ [];
       row = λ r. record { kind = getD r 0 0; asset = getD r 1 0; amount = getD r 2 0; first = getD r 3 0; second = getD r 4 0 };
-    }
-
--- member, asset, deposit number, amount
-abbrev pub lotShape : Shape Lot
-lotShape =
-    record {
-      width = 4;
-      flat = λ l. l .member ∷ l .asset ∷ l .number .0 ∷ l .amount ∷ [];
-      row = λ r. record { member = getD r 0 0; asset = getD r 1 0; number = record { 0 = getD r 2 0 }; amount = getD r 3 0 };
     }

@@ -1,70 +1,70 @@
 -- The line of an answer, piece by piece, and the tally that it raises.
-use Prim.Native.Nat.{ℕ, zero, suc, _+_, _*_, _≤_, _<_}
-use mathlib.Core.Path.{_≡_, refl, sym, ap, _∙_}
+use Prim.Native.Nat.{ℕ, zero, suc, _+_, _≤_, _<_}
+use mathlib.Core.Path.{_≡_, refl, sym, ap, subst, _∙_}
+use mathlib.Core.Bool.{Bool, true, false, not, _&&_}
+use lib.Dec.{T as Holds, ltb, nltb→le}
 use mathlib.Core.List.{List, [], _∷_, _++_}
 use mathlib.Core.Logic.{_≢_}
 use native.Mathlib.Omega.{arith}
-use lib.Dec.{lit<}
-use lib.ListN.{length, getD, take, drop}
+use lib.ListN.{length, getD, take}
+use lib.Seq.{take-all, take-suc}
+use native.Mathlib.Numerals.{add-one}
 use Rattle.rules.specs.declared.rows.Lot.{Lot}
 use Rattle.rules.specs.declared.answers.Answer.{Answer}
 use Rattle.rules.specs.declared.calls.Line.{Line}
 use Rattle.rules.specs.declared.answers.Tally.{Tally}
 use Rattle.rules.specs.Lists.{joined}
-use Rattle.rules.specs.Tables.{rowsOf, lotShape}
+use Rattle.rules.specs.Lots.{noLot}
 use Rattle.rules.specs.Lines.{lineFeed, tabbed}
-use Rattle.rules.specs.Replies.{told, if-done}
+use Rattle.rules.specs.Replies.{told}
 use Rattle.rules.specs.Transcript.{pieceValues, replyText, tallied}
 use Rattle.rules.proofs.Accepts.{not-done}
-use Rattle.rules.proofs.Laying.{rows-split}
-use Rattle.tables.proofs.Rest.{cell, cell0}
 use Rattle.lines.specs.Writing.{Page, page, put, replyStart}
 use Rattle.lines.proofs.PageLaws.{put-then, put-pieces, put-nothing}
 use Rattle.runner.specs.declared.step.Stepped.{Stepped}
 use Rattle.runner.specs.declared.running.Running.{Running}
-use Rattle.runner.specs.Machine.{Machine, answered, outcomeFor}
+use Rattle.runner.specs.Machine.{answered, outcomeFor}
 use Rattle.runner.specs.Running.{machineOf, Counted}
-use Rattle.runner.specs.Step.{Replied, repliedOf, replied, handed, handedCount, pieceAt, answerText}
-
--- ---- one piece read
-drop-past : (n : ℕ) (t : List ℕ) → length t ≤ n → drop n t ≡ []
-drop-past zero [] h = refl
-drop-past (suc n) [] h = refl
-drop-past zero (x ∷ t) h = absurd (omega arith)
-drop-past (suc n) (x ∷ t) h = drop-past n t (omega arith)
-
-pub piece-past : (t : List ℕ) (i : ℕ) → length t ≡ 4096 → 1024 ≤ i → record { member = 0; asset = 0; number = record { 0 = 0 }; amount = 0 } ≡ pieceAt i t
-unfolding pieceAt
-piece-past t i l h =
-    let w : length t ≤ i * 4 = omega arith in
-    rw (drop-past (i * 4) t w)
-
-pub piece-here : (t : List ℕ) (i : ℕ)
-    → record { member = getD t (i * 4) 0; asset = getD t (i * 4 + 1) 0; number = record { 0 = getD t (i * 4 + 2) 0 }; amount = getD t (i * 4 + 3) 0 } ≡ pieceAt i t
-unfolding pieceAt
-piece-here t i = rw (cell0 4 i t (lit< tt), cell 4 i 1 t (lit< tt), cell 4 i 2 t (lit< tt), cell 4 i 3 t (lit< tt))
+use Rattle.runner.specs.Step.{Replied, repliedOf, replied, handed, handedCount, answerText}
 
 -- ---- the pieces, one after the other
-abbrev pub piecesText : ℕ → List ℕ → List ℕ
-piecesText n t = tabbed (joined pieceValues (rowsOf lotShape n t))
+abbrev pub piecesText : ℕ → List Lot → List ℕ
+piecesText n t = tabbed (joined pieceValues (take n t))
 
-pub no-pieces : (p : Page) (t : List ℕ) → p ≡ put p (piecesText 0 t)
-unfolding rowsOf joined tabbed
+pub no-pieces : (p : Page) (t : List Lot) → p ≡ put p (piecesText 0 t)
+unfolding joined tabbed
 no-pieces p t = put-nothing p
 
-pub more-pieces : (p : Page) {q r : Page} (t : List ℕ) (i : ℕ) (l : Lot) → l ≡ pieceAt i t → q ≡ put p (piecesText i t) → r ≡ put q (tabbed (pieceValues l)) → r ≡ put p (piecesText (i + 1) t)
-unfolding rowsOf pieceAt
-more-pieces p t i l k e f = rw (rows-split lotShape i 1 t, ← k) (put-pieces p (rowsOf lotShape i t) l e f)
+pub more-pieces : (p : Page) {q r : Page} (t : List Lot) (i : ℕ) (l : Lot) → i < length t → l ≡ getD t i noLot → q ≡ put p (piecesText i t) → r ≡ put q (tabbed (pieceValues l)) → r ≡ put p (piecesText (i + 1) t)
+more-pieces p t i l h k e f = rw (add-one i, take-suc t i noLot h, ← k) (put-pieces p (take i t) l e f)
+
+-- past the end of the table there are no more
+all-pieces : (p : Page) {q : Page} (t : List Lot) (i n : ℕ) → length t ≤ i → i ≤ n → q ≡ put p (piecesText i t) → q ≡ put p (piecesText n t)
+all-pieces p t i n h k e =
+    let l : length t ≤ n = omega arith in
+    e ∙ ap (λ (ls : List Lot). put p (tabbed (joined pieceValues ls))) (take-all i t h ∙ sym (take-all n t l))
+
+-- the loop that writes them ends at the nth, or where the table does
+pub pieces-end : (p : Page) {q : Page} (t : List Lot) (i n : ℕ) → i ≤ n → Holds (not (ltb i n && ltb i (length t))) → q ≡ put p (piecesText i t) → q ≡ put p (piecesText n t)
+pieces-end p {q} t i n h stop e = go (ltb i n) (ltb i (length t)) refl refl stop
+  where
+    go : (x y : Bool) → ltb i n ≡ x → ltb i (length t) ≡ y → Holds (not (x && y)) → q ≡ put p (piecesText n t)
+    go true true a b o = absurd o
+    go true false a b o = all-pieces p t i n (nltb→le i (length t) (subst (λ (z : Bool). Holds (not z)) (sym b) tt)) h e
+    go false y a b o =
+        let l : n ≤ i = nltb→le i n (subst (λ (z : Bool). Holds (not z)) (sym a) tt) in
+        let s : i ≡ n = omega arith in
+        subst (λ (m : ℕ). q ≡ put p (piecesText m t)) s e
 
 -- ---- the whole line
-handed-counted : (a : Answer) (t : List ℕ) → handed a t ≡ rowsOf lotShape (handedCount a) t
-unfolding handed handedCount rowsOf
+handed-counted : (a : Answer) (t : List Lot) → handed a t ≡ take (handedCount a) t
+unfolding handed handedCount
 handed-counted Answer.Done t = refl
 handed-counted (Answer.Sent x) t = refl
 handed-counted (Answer.Traced n) t = refl
 handed-counted (Answer.Refused why) t = refl
 
-pub answer-text : (p : Page) {q r s : Page} (n : ℕ) (a : Answer) (t : List ℕ) (k : ℕ) → k ≡ handedCount a → q ≡ put p (replyStart n (told a)) → r ≡ put q (piecesText k t) → s ≡ put r (lineFeed ∷ [])
+pub answer-text : (p : Page) {q r s : Page} (n : ℕ) (a : Answer) (t : List Lot) (k : ℕ) → k ≡ handedCount a → q ≡ put p (replyStart n (told a)) → r ≡ put q (piecesText k t) → s ≡ put r (lineFeed ∷ [])
     → s ≡ put p (answerText n a t)
 unfolding answerText
 answer-text p n a t k c e f g =

@@ -1,23 +1,21 @@
 -- What a call's own function gives is what the step leaves: only a trace hands out pieces, and a trace leaves the book as it was.
-use Prim.Native.Nat.{ℕ, zero, suc, _+_, _*_, _/_, _≤_, _<_}
+use Prim.Native.Nat.{ℕ, zero, suc}
 use mathlib.Core.Path.{_≡_, refl, sym, ap, _∙_}
-use mathlib.Core.Bool.{Bool, true, false}
-use mathlib.Core.List.{List, [], _∷_, _++_}
+use mathlib.Core.List.{List, []}
 use native.Mathlib.Nat.{add-zero}
 use native.Mathlib.Omega.{arith}
-use lib.ListN.{length, getD}
+use lib.ListN.{length, getD, take}
 use Rattle.rules.specs.declared.rows.Nonce.{Nonce}
 use Rattle.rules.specs.declared.rows.Lot.{Lot}
 use Rattle.rules.specs.declared.calls.Call.{Call}
 use Rattle.rules.specs.declared.answers.Answer.{Answer}
 use Rattle.rules.specs.declared.answers.Answered.{Answered}
-use Rattle.rules.specs.Limits.{historyRows}
-use Rattle.rules.specs.Tables.{rowsOf, edited, lotShape}
-use Rattle.rules.specs.State.{State, Book, view, laid, deskOf, historyOf}
+use Rattle.rules.specs.Tables.{edited}
+use Rattle.rules.specs.State.{Book, view, laid, deskOf}
 use Rattle.rules.specs.Replies.{Reply, told, if-done}
 use Rattle.rules.specs.Effects.{effect, balancesAfter, holdersAfter, inboxEdit, outsideAfter, recordsOf}
 use Rattle.rules.specs.Lots.{pieces}
-use Rattle.rules.specs.Answer.{Outcome, answer, bookOf, outcomeOf, replyNumber, replyWith, doneAnswer, piecesOf, traceAnswer, TraceOutcome}
+use Rattle.rules.specs.Answer.{answer, outcomeOf, replyNumber, replyWith, doneAnswer, piecesOf, traceAnswer, TraceOutcome}
 use Rattle.rules.proofs.Facts.{Accepted}
 use Rattle.rules.proofs.Accepts.{accepted-frame}
 use Rattle.desk.proofs.Books.{Framed, framed, inbox-kept, outbox-kept, history-kept, inbox-count, outbox-count, flight-count, history-count}
@@ -27,7 +25,7 @@ use Rattle.lines.specs.Writing.{Page, page, put, replyLine}
 use Rattle.rules.specs.Transcript.{replyText}
 use Rattle.lines.proofs.PageLaws.{reply-line, reply-text}
 use Rattle.runner.specs.declared.step.Stepped.{Stepped}
-use Rattle.runner.specs.Step.{Replied, handed, answerText, repliedOf, replied}
+use Rattle.runner.specs.Step.{Replied, HasTables, handed, answerText, repliedOf, replied}
 
 abbrev valueCount : Reply → ℕ
 valueCount r = length (r .values)
@@ -39,8 +37,8 @@ plain-replied a i o h r out n p e f g = rw (e, f, g, reply-line n (outcomeOf a i
 
 -- ---- a trace
 -- a done trace hands out as many rows as there are pieces
-handed-traced : (a : Answer) (k : ℕ) (ps : List Lot) (t : List ℕ) → told a ≡ replyWith k (told (Answer.Traced (length ps)))
-    → rowsOf lotShape (length (if-done k ps [])) t ≡ if-done k ps [] → handed a t ≡ if-done k ps []
+handed-traced : (a : Answer) (k : ℕ) (ps t : List Lot) → told a ≡ replyWith k (told (Answer.Traced (length ps)))
+    → take (length (if-done k ps [])) t ≡ if-done k ps [] → handed a t ≡ if-done k ps []
 unfolding handed told
 handed-traced Answer.Done zero ps t e f = absurd (let z : _≡_ {A = ℕ} 0 1 = ap valueCount e in omega arith)
 handed-traced Answer.Done (suc k) ps t e f = refl
@@ -70,18 +68,15 @@ trace-book b n = go (replyNumber b (Call.Trace n)) refl
 abbrev replyFound : TraceOutcome → Reply
 replyFound o = o .reply
 
-abbrev piecesFound : TraceOutcome → List ℕ
+abbrev piecesFound : TraceOutcome → List Lot
 piecesFound o = o .pieces
 
-module _ (b : Book) (work out : List ℕ) (n : Nonce) (a : Answer) (work′ out′ : List ℕ) (w : length work ≡ 4096) (o : length out ≡ 4096) (e : traceOutcomeOf a work′ out′ ≡ traceAnswer b work out n) where
-  room : (t : List ℕ) → length t ≡ 4096 → historyRows ≤ length t / lotShape .width
-  room t h = rw h (omega arith)
-
+module _ (b : Book) (work out : List Lot) (n : Nonce) (a : Answer) (work′ out′ : List Lot) (has : HasTables work out) (e : traceOutcomeOf a work′ out′ ≡ traceAnswer b work out n) where
   reply-is : told a ≡ answer b (Call.Trace n) .reply
-  reply-is = ap replyFound e ∙ sym (trace-reply b work out n (room work w) (room out o))
+  reply-is = ap replyFound e ∙ sym (trace-reply b work out n (has .rows) (has .places))
 
-  rows-are : rowsOf lotShape (length (answer b (Call.Trace n) .pieces)) out′ ≡ answer b (Call.Trace n) .pieces
-  rows-are = ap (λ (t : List ℕ). rowsOf lotShape (length (answer b (Call.Trace n) .pieces)) t) (ap piecesFound e) ∙ trace-pieces b work out n (room work w) (room out o)
+  rows-are : take (length (answer b (Call.Trace n) .pieces)) out′ ≡ answer b (Call.Trace n) .pieces
+  rows-are = ap (λ (t : List Lot). take (length (answer b (Call.Trace n) .pieces)) t) (ap piecesFound e) ∙ trace-pieces b work out n (has .rows) (has .places)
 
   pieces-are : handed a out′ ≡ answer b (Call.Trace n) .pieces
   unfolding answer piecesOf doneAnswer

@@ -1,10 +1,11 @@
 -- One call answered: the book after it, the reply's number, and the page with the reply's line; and the text of an answer's line.
-use Prim.Native.Nat.{ℕ, _*_}
+use Prim.Native.Nat.{ℕ, _≤_}
 use mathlib.Core.List.{List, [], _∷_, _++_}
-use lib.ListN.{take, drop}
+use lib.ListN.{length, take}
 use Rattle.rules.specs.declared.rows.Lot.{Lot}
+use Rattle.rules.specs.declared.desk.Desk.{Desk}
 use Rattle.rules.specs.declared.answers.Answer.{Answer}
-use Rattle.rules.specs.Tables.{rowsOf, lotShape}
+use Rattle.rules.specs.Limits.{historyRows}
 use Rattle.rules.specs.Lists.{joined}
 use Rattle.rules.specs.Lines.{lineFeed, tabbed}
 use Rattle.rules.specs.State.{Book}
@@ -27,11 +28,15 @@ repliedOf r inbox outbox history out = record { book = bookOf (r .desk) inbox ou
 abbrev pub replied : ℕ → Page → Outcome → Replied
 replied n p o = record { book = o .book; number = o .reply .number; text = put p (replyText n o) }
 
+-- what a step leaves that keeps the desk as it came
+abbrev pub steppedOf : Desk → Answer → ℕ → Stepped
+steppedOf d a at = record { number = told a .number; desk = d; at = at }
+
 -- the pieces that an answer hands out: of a done trace so many first rows of their table, of any other none
-unfoldable pub handed : Answer → List ℕ → List Lot
+unfoldable pub handed : Answer → List Lot → List Lot
 handed Answer.Done ps = []
 handed (Answer.Sent x) ps = []
-handed (Answer.Traced n) ps = rowsOf lotShape n ps
+handed (Answer.Traced n) ps = take n ps
 handed (Answer.Refused why) ps = []
 
 -- how many pieces an answer hands out
@@ -41,10 +46,11 @@ handedCount (Answer.Sent x) = 0
 handedCount (Answer.Traced n) = n
 handedCount (Answer.Refused why) = 0
 
--- the piece in row i of their table
-unfoldable pub pieceAt : ℕ → List ℕ → Lot
-pieceAt i ps = lotShape .row (take 4 (drop (i * 4) ps))
-
 -- an answer's line, with the pieces that lie in their table
-unfoldable pub answerText : ℕ → Answer → List ℕ → List ℕ
+unfoldable pub answerText : ℕ → Answer → List Lot → List ℕ
 answerText n a ps = replyStart n (told a) ++ tabbed (joined pieceValues (handed a ps)) ++ (lineFeed ∷ [])
+
+-- the two tables of a trace have a row for each record that a history can have
+pub record HasTables (work pieces : List Lot) : Type 0 where
+  pub rows : historyRows ≤ length work
+  pub places : historyRows ≤ length pieces

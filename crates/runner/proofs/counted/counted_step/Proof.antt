@@ -49,7 +49,7 @@ use Rattle.runner.specs.declared.step.Stepped.{Stepped}
 use Rattle.runner.specs.Step.{repliedOf, replied}
 use Rattle.runner.proofs.step.Stepped as Sp
 use Rattle.runner.proofs.step.Stepped.Laws as Sp′
-use Rattle.runner.proofs.Locals.{local, part, slice-at}
+use Rattle.history.proofs.Locals.{local, part, slice-at}
 use Rattle.runner.proofs.TwoFacts.{says-both, needs-both}
 use Rattle.runner.proofs.Values.{Tallies, Desks, machK, Lines, machL, Results, machS, Loan, loan-of, lent, sv, pv, token, last-slice, last-tally}
 use Rattle.runner.proofs.StepCalls.{LineStep, steps-line, Raise, raises}

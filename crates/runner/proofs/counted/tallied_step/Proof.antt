@@ -60,7 +60,7 @@ use Rattle.runner.proofs.step.Stepped as Sp
 use Rattle.runner.proofs.step.Stepped.Laws as Sp′
 use Rattle.runner.proofs.counted.Tallied as Td
 use Rattle.runner.proofs.counted.Tallied.Laws as Td′
-use Rattle.runner.proofs.Locals.{local, part, slice-at}
+use Rattle.history.proofs.Locals.{local, part, slice-at}
 use Rattle.runner.proofs.TwoFacts.{says-both, needs-both}
 use Rattle.runner.proofs.Values.{Tallies, machT, Desks, machK, Lines, machL, Results, machS, Loan, loan-of, lent, sv, tally, token, last-slice}
 use Rattle.runner.proofs.StepCalls.{CountedStep, steps-counted}
