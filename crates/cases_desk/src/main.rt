@@ -86,8 +86,8 @@ fn asked(
     let s = ledger::sign(after, inbox, outbox, history, sign);
     let next = s.answer;
     Replies {
-        number: lines::write::reply_number(answer),
-        then: lines::write::reply_number(next),
+        number: replies::reply_number(answer),
+        then: replies::reply_number(next),
         desk: after,
     }
 }

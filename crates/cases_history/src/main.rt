@@ -190,7 +190,7 @@ fn provenance(d: Desk, history: &[u64], member: u64, asset: u64) {
             value(n);
         }
         Origin::Refused(why) => {
-            value(lines::write::refusal_number(why));
+            value(replies::refusal_number(why));
             value(0);
         }
     }
@@ -212,7 +212,7 @@ fn trace(d: Desk, history: &[u64], work_rows: u64, piece_rows: u64, n: u64) {
     let nonce = Nonce(n);
     let s = lent(d, &inbox, &outbox, history, w, p, nonce);
     let a = s.answer;
-    value(lines::write::reply_number(a));
+    value(replies::reply_number(a));
     value(count(a));
     value(s.work);
     value(s.pieces);

@@ -1,5 +1,4 @@
 pub mod FieldLaws
 pub mod TakingLaws
 pub mod LineLaws
-pub mod PageLaws
 pub mod Once

@@ -1,86 +1,31 @@
--- Any two results that a public function's contract allows coincide: each contract is an equation, of the result or of the page that is left.
+-- Any two results that a public function's contract allows coincide: each contract is an equation of the result.
 use Prim.Native.Nat.{ℕ}
-use mathlib.Core.Path.{_≡_, sym, ap, _∙_}
-use mathlib.Core.List.{List, [], _∷_, _++_}
-use Rattle.rules.specs.declared.rows.Lot.{Lot}
+use mathlib.Core.Path.{_≡_}
+use mathlib.Core.List.{List}
 use Rattle.rules.specs.declared.calls.Field.{Field}
 use Rattle.rules.specs.declared.calls.Line.{Line}
-use Rattle.rules.specs.declared.answers.Refusal.{Refusal}
-use Rattle.rules.specs.declared.answers.Answer.{Answer}
-use Rattle.rules.specs.declared.answers.Tally.{Tally}
-use Rattle.rules.specs.Replies.{numberOf, told}
-use Rattle.rules.specs.Lines.{fieldEnd, firstField, afterField, number, readLine, lineFeed, decimal, tabbed}
-use Rattle.rules.specs.Transcript.{pieceValues, endText}
+use Rattle.rules.specs.Lines.{fieldEnd, firstField, afterField, number, readLine}
+use Rattle.rules.proofs.Told.{once}
 use Rattle.lines.specs.Reading.{nextField, afterNext}
-use Rattle.lines.proofs.PageLaws.{upto, bytes}
-use Rattle.lines.specs.Writing.{page, put, replyStart, replyLine}
-
--- two things that are both a third are the same
-only : {A : Type 0} (x : A) {r r′ : A} → r ≡ x → r′ ≡ x → r ≡ r′
-only x e f = e ∙ sym f
 
 -- ---- the field reader and the line reader
 pub field-end-once : (s : List ℕ) {r r′ : ℕ} → r ≡ fieldEnd s → r′ ≡ fieldEnd s → r ≡ r′
-field-end-once s = only (fieldEnd s)
+field-end-once s = once (fieldEnd s)
 
 pub number-once : (f : List ℕ) {r r′ : Field} → r ≡ number f → r′ ≡ number f → r ≡ r′
-number-once f = only (number f)
+number-once f = once (number f)
 
 pub field-once : (s : List ℕ) {r r′ : Field} → r ≡ number (firstField s) → r′ ≡ number (firstField s) → r ≡ r′
-field-once s = only (number (firstField s))
+field-once s = once (number (firstField s))
 
 pub after-field-once : (s : List ℕ) {r r′ : List ℕ} → r ≡ afterField s → r′ ≡ afterField s → r ≡ r′
-after-field-once s = only (afterField s)
+after-field-once s = once (afterField s)
 
 pub next-field-once : (s : List ℕ) {r r′ : Field} → r ≡ nextField s → r′ ≡ nextField s → r ≡ r′
-next-field-once s = only (nextField s)
+next-field-once s = once (nextField s)
 
 pub after-next-once : (s : List ℕ) {r r′ : List ℕ} → r ≡ afterNext s → r′ ≡ afterNext s → r ≡ r′
-after-next-once s = only (afterNext s)
+after-next-once s = once (afterNext s)
 
 pub read-line-once : (s : List ℕ) {r r′ : Line} → r ≡ readLine s → r′ ≡ readLine s → r ≡ r′
-read-line-once s = only (readLine s)
-
--- ---- the numbers of replies
-pub reply-number-once : (a : Answer) {r r′ : ℕ} → r ≡ told a .number → r′ ≡ told a .number → r ≡ r′
-reply-number-once a = only (told a .number)
-
-pub refusal-number-once : (why : Refusal) {r r′ : ℕ} → r ≡ numberOf why → r′ ≡ numberOf why → r ≡ r′
-refusal-number-once why = only (numberOf why)
-
--- ---- the writer: the place and every byte of the buffer, whatever text a function writes
--- one place and one buffer at most are left by writing this text
-abbrev pub AtMostOne : List ℕ → ℕ → List ℕ → Type 0
-AtMostOne o at text = (r r′ : ℕ) (o₁ o₂ : List ℕ) → page o₁ r ≡ put (page o at) text → page o₂ r′ ≡ put (page o at) text → (r ≡ r′) × (o₁ ≡ o₂)
-
-module _ (o : List ℕ) (at : ℕ) where
-  -- put_bytes
-  pub put-once : (text : List ℕ) → AtMostOne o at text
-  put-once text r r′ o₁ o₂ e f = (ap upto (only (put (page o at) text) e f), ap bytes (only (put (page o at) text) e f))
-
-  pub put-byte-once : (b : ℕ) → AtMostOne o at (b ∷ [])
-  put-byte-once b = put-once (b ∷ [])
-
-  pub put-decimal-once : (n : ℕ) → AtMostOne o at (decimal n)
-  put-decimal-once n = put-once (decimal n)
-
-  pub put-value-once : (n : ℕ) → AtMostOne o at (tabbed (n ∷ []))
-  put-value-once n = put-once (tabbed (n ∷ []))
-
-  pub put-reply-once : (n m : ℕ) → AtMostOne o at (decimal n ++ tabbed (m ∷ []))
-  put-reply-once n m = put-once (decimal n ++ tabbed (m ∷ []))
-
-  pub put-piece-once : (x : Lot) → AtMostOne o at (tabbed (pieceValues x))
-  put-piece-once x = put-once (tabbed (pieceValues x))
-
-  pub put-answer-once : (n : ℕ) (a : Answer) → AtMostOne o at (replyStart n (told a))
-  put-answer-once n a = put-once (replyStart n (told a))
-
-  pub put-line-feed-once : AtMostOne o at (lineFeed ∷ [])
-  put-line-feed-once = put-once (lineFeed ∷ [])
-
-  pub put-reply-line-once : (n : ℕ) (a : Answer) → AtMostOne o at (replyLine n (told a))
-  put-reply-line-once n a = put-once (replyLine n (told a))
-
-  pub put-end-once : (t : Tally) → AtMostOne o at (endText t)
-  put-end-once t = put-once (endText t)
+read-line-once s = once (readLine s)

@@ -1,4 +1,3 @@
-// Document 01, "Lines": from a line's bytes to one of the nine calls, and from an answer to its line.
+// Document 01, "Lines": from a line's bytes to one of the nine calls.
 pub mod fields;
 pub mod read;
-pub mod write;

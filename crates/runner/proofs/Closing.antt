@@ -11,8 +11,8 @@ use Rattle.rules.specs.declared.answers.Refusal.{Refusal}
 use Rattle.rules.specs.declared.answers.Tally.{Tally}
 use Rattle.rules.specs.Replies.{told, numberOf}
 use Rattle.rules.specs.Transcript.{answerLine, tallied, endText}
-use Rattle.lines.specs.Writing.{Page, put, replyLine}
-use Rattle.lines.proofs.PageLaws.{put-then, reply-line}
+use Rattle.replies.specs.Writing.{Page, put, replyLine}
+use Rattle.replies.proofs.PageLaws.{put-then, reply-line}
 use Rattle.runner.specs.declared.running.Running.{Running}
 use Rattle.runner.specs.Machine.{Machine, outcomeFor, unfinished, unfinishedText, ended, closing}
 use Rattle.runner.specs.Running.{machineOf}

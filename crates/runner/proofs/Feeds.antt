@@ -12,8 +12,8 @@ use borrow.Author.Tests.{lt-ltb, le-ltb, eq-eqb, ne-eqb}
 use Rattle.rules.specs.declared.calls.Line.{Line}
 use Rattle.rules.specs.Lines.{readLine}
 use Rattle.rules.specs.Transcript.{replyText}
-use Rattle.lines.specs.Writing.{Page, page, put}
-use Rattle.lines.proofs.PageLaws.{put-then, put-nothing}
+use Rattle.replies.specs.Writing.{Page, page, put}
+use Rattle.replies.proofs.PageLaws.{put-then, put-nothing}
 use Rattle.runner.specs.declared.running.Running.{Running}
 use Rattle.runner.specs.Machine.{Machine, held-with, outcomeFor, answered, fed, written, feeds, writes}
 use Rattle.runner.specs.Running.{machineOf}

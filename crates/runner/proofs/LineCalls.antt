@@ -43,16 +43,16 @@ use Rattle.rules.proofs.rows.Lot.Laws as T′
 use Rattle.rules.proofs.answers.Answer as An
 use Rattle.rules.proofs.answers.Answer.Laws as An′
 use Rattle.history.proofs.Values.{R, machOf, Answers, machA, at-list, sv}
-use Rattle.lines.specs.Writing.{page, put, replyStart}
+use Rattle.replies.specs.Writing.{page, put, replyStart}
 use Rattle.runner.specs.declared.step.Stepped.{Stepped}
 use Rattle.runner.proofs.step.Stepped as St
 use Rattle.runner.proofs.step.Stepped.Laws as St′
-use Rattle.lines.proofs.write.put_piece as put-piece
-use Rattle.lines.proofs.write.put_piece.Symbol.{name as #put-piece}
-use Rattle.lines.proofs.write.put_answer as put-answer
-use Rattle.lines.proofs.write.put_answer.Symbol.{name as #put-answer}
-use Rattle.lines.proofs.write.put_line_feed as put-line-feed
-use Rattle.lines.proofs.write.put_line_feed.Symbol.{name as #put-line-feed}
+use Rattle.replies.proofs.put_piece as put-piece
+use Rattle.replies.proofs.put_piece.Symbol.{name as #put-piece}
+use Rattle.replies.proofs.put_answer as put-answer
+use Rattle.replies.proofs.put_answer.Symbol.{name as #put-answer}
+use Rattle.replies.proofs.put_line_feed as put-line-feed
+use Rattle.replies.proofs.put_line_feed.Symbol.{name as #put-line-feed}
 
 -- ---- what a step leaves, as the machine has it
 abbrev pub Steps : RattleType

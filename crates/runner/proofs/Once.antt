@@ -12,9 +12,9 @@ use Rattle.rules.specs.State.{Book}
 use Rattle.rules.specs.Answer.{answer}
 use Rattle.rules.specs.Transcript.{answerLine, replyText, tallied}
 use Rattle.rules.proofs.Told.{once}
-use Rattle.lines.specs.Writing.{Page, page, put}
-use Rattle.lines.proofs.Once.{put-once}
-use Rattle.lines.proofs.PageLaws.{upto, bytes}
+use Rattle.replies.specs.Writing.{Page, page, put}
+use Rattle.replies.proofs.Once.{put-once}
+use Rattle.replies.proofs.PageLaws.{upto, bytes}
 use Rattle.runner.specs.declared.step.Stepped.{Stepped}
 use Rattle.runner.specs.declared.running.Running.{Running}
 use Rattle.runner.specs.declared.feed.Feeding.{Feeding}

@@ -19,8 +19,8 @@ use Rattle.rules.specs.Lines.{lineFeed, tabbed}
 use Rattle.rules.specs.Replies.{told}
 use Rattle.rules.specs.Transcript.{pieceValues, replyText, tallied}
 use Rattle.rules.proofs.Accepts.{not-done}
-use Rattle.lines.specs.Writing.{Page, page, put, replyStart}
-use Rattle.lines.proofs.PageLaws.{put-then, put-pieces, put-nothing}
+use Rattle.replies.specs.Writing.{Page, page, put, replyStart}
+use Rattle.replies.proofs.PageLaws.{put-then, put-pieces, put-nothing}
 use Rattle.runner.specs.declared.step.Stepped.{Stepped}
 use Rattle.runner.specs.declared.running.Running.{Running}
 use Rattle.runner.specs.Machine.{answered, outcomeFor}

@@ -14,8 +14,8 @@ use Rattle.rules.specs.Lists.{all}
 use Rattle.rules.specs.declared.calls.Line.{Line}
 use Rattle.rules.specs.Lines.{lineFeed, readLine}
 use Rattle.rules.specs.Transcript.{replyText}
-use Rattle.lines.specs.Writing.{Page, page, put}
-use Rattle.lines.proofs.PageLaws.{put-then, put-nothing}
+use Rattle.replies.specs.Writing.{Page, page, put}
+use Rattle.replies.proofs.PageLaws.{put-then, put-nothing}
 use Rattle.runner.specs.declared.running.Running.{Running}
 use Rattle.runner.specs.declared.running.Written.{Written}
 use Rattle.runner.specs.declared.feed.Feeding.{Feeding}

@@ -25,7 +25,7 @@ use Rattle.lots.proofs.TraceJoin.{records-fit}
 use Rattle.rules.specs.declared.answers.Tally.{Tally}
 use Rattle.rules.specs.Transcript.{pieceValues, replyText, answerLine, endText}
 use Rattle.runner.specs.Machine.{Machine, stopped, outcomeFor, written, unfinishedText, ended, closing}
-use Rattle.lines.specs.Writing.{Page, page, putByte, put}
+use Rattle.replies.specs.Writing.{Page, page, putByte, put}
 use Rattle.runner.specs.declared.feed.Feeding.{Feeding}
 use Rattle.runner.specs.Feeding.{fedMachine, Closes, EndsWith}
 use Rattle.runner.specs.Kept.{Closed}

@@ -21,9 +21,9 @@ use Rattle.rules.proofs.Accepts.{accepted-frame}
 use Rattle.desk.proofs.Books.{Framed, framed, inbox-kept, outbox-kept, history-kept, inbox-count, outbox-count, flight-count, history-count}
 use Rattle.history.specs.Tracing.{traceOutcomeOf}
 use Rattle.lots.proofs.TraceJoin.{trace-reply, trace-pieces}
-use Rattle.lines.specs.Writing.{Page, page, put, replyLine}
+use Rattle.replies.specs.Writing.{Page, page, put, replyLine}
 use Rattle.rules.specs.Transcript.{replyText}
-use Rattle.lines.proofs.PageLaws.{reply-line, reply-text}
+use Rattle.replies.proofs.PageLaws.{reply-line, reply-text}
 use Rattle.runner.specs.declared.step.Stepped.{Stepped}
 use Rattle.runner.specs.Step.{Replied, HasTables, handed, answerText, repliedOf, replied}
 

@@ -12,7 +12,7 @@ use Rattle.rules.specs.State.{Book}
 use Rattle.rules.specs.Replies.{told}
 use Rattle.rules.specs.Answer.{Outcome, bookOf}
 use Rattle.rules.specs.Transcript.{pieceValues, replyText}
-use Rattle.lines.specs.Writing.{Page, page, put, replyStart}
+use Rattle.replies.specs.Writing.{Page, page, put, replyStart}
 use Rattle.runner.specs.declared.step.Stepped.{Stepped}
 
 pub record Replied : Type 0 where

@@ -9,7 +9,7 @@ ghost use Prim.Native.Nat.{_≤_};
 ghost use mathlib.Core.Path.{_≡_};
 ghost use Rattle.rules.specs.Answer.{bookOf};
 ghost use Rattle.rules.specs.Transcript.{answerLine, tallied};
-ghost use Rattle.lines.specs.Writing.{page};
+ghost use Rattle.replies.specs.Writing.{page};
 ghost use Rattle.runner.specs.Step.{repliedOf, replied};
 
 // "One tally, handed to each step and updated there": raised once, by the number of the step's reply.

@@ -7,7 +7,7 @@ ghost use Prim.Native.Nat.{_≤_};
 ghost use mathlib.Core.Path.{_≡_};
 ghost use mathlib.Core.List.{[]};
 ghost use Rattle.rules.specs.Transcript.{replyText};
-ghost use Rattle.lines.specs.Writing.{page, put};
+ghost use Rattle.replies.specs.Writing.{page, put};
 ghost use Rattle.runner.specs.Machine.{outcomeFor, answered};
 ghost use Rattle.runner.specs.Running.{machineOf, Counted};
 

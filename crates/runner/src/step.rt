@@ -1,7 +1,7 @@
 // One call of the nine: answered, and its reply's line written.
 use crate::traced::put_trace;
-use lines::write::put_reply_line;
-use lines::write::reply_number;
+use replies::put_reply_line;
+use replies::reply_number;
 use rules::answers::Answer;
 use rules::answers::Answered;
 use rules::answers::Refusal;
@@ -12,7 +12,7 @@ ghost use mathlib.Core.Path.{_≡_};
 ghost use Rattle.rules.specs.Replies.{told};
 ghost use Rattle.rules.specs.Answer.{bookOf, answer};
 ghost use Rattle.rules.specs.Transcript.{answerLine};
-ghost use Rattle.lines.specs.Writing.{page, put, replyLine};
+ghost use Rattle.replies.specs.Writing.{page, put, replyLine};
 ghost use Rattle.runner.specs.Step.{repliedOf, replied};
 
 // What a step leaves beside the lent tables: the reply's number, the desk, and the place up to which the

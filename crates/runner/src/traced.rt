@@ -1,9 +1,9 @@
 // A trace: answered, and its reply's line written with the pieces.
 use crate::step::Stepped;
-use lines::write::put_answer;
-use lines::write::put_line_feed;
-use lines::write::put_piece;
-use lines::write::reply_number;
+use replies::put_answer;
+use replies::put_line_feed;
+use replies::put_piece;
+use replies::reply_number;
 use rules::answers::Answer;
 use rules::desk::Desk;
 use rules::rows::DepositNumber;
@@ -16,7 +16,7 @@ ghost use Rattle.rules.specs.Lists.{joined};
 ghost use Rattle.rules.specs.Lines.{tabbed};
 ghost use Rattle.rules.specs.Answer.{bookOf, answer};
 ghost use Rattle.rules.specs.Transcript.{pieceValues};
-ghost use Rattle.lines.specs.Writing.{page, put};
+ghost use Rattle.replies.specs.Writing.{page, put};
 ghost use Rattle.runner.specs.Step.{repliedOf, replied, handedCount, answerText, steppedOf, HasTables};
 
 // A trace works in a table of lots that is lent for it, hands out its pieces in another, and leaves the book

@@ -1,5 +1,5 @@
 use native.Mathlib.Omega.{arith}
-use Rattle.lines.specs.Writing.{page}
+use Rattle.replies.specs.Writing.{page}
 use Rattle.runner.specs.Feeding.{Closes, EndsWith}
 use Rattle.runner.proofs.Room.{closed-all}
 use Rattle.runner.proofs.Closing.{closed-stopped, closed-whole, closed-unfinished}
@@ -8,8 +8,8 @@ use Rattle.runner.proofs.feed.close.Statement.{statement}
 use Rattle.runner.proofs.feed.close.Tie as tie
 use Rattle.runner.proofs.feed.close.Reads as reads
 use Rattle.runner.proofs.feed.close.Lts as lts
-use Rattle.lines.proofs.write.put_end.Reads as put-end-reads
-use Rattle.lines.proofs.write.put_reply_line.Reads as put-reply-line-reads
+use Rattle.replies.proofs.put_end.Reads as put-end-reads
+use Rattle.replies.proofs.put_reply_line.Reads as put-reply-line-reads
 use Rattle.runner.proofs.tally.one_more.Reads as one-more-reads
 
 -- src/feed.rt:147:9

@@ -1,5 +1,5 @@
 use native.Mathlib.Omega.{arith}
-use Rattle.lines.specs.Writing.{page}
+use Rattle.replies.specs.Writing.{page}
 use Rattle.runner.proofs.Pages.{line-answered, line-text, line-counted}
 use borrow.Author.Needs.{needs}
 use Rattle.runner.proofs.running.answer_line.Statement.{statement}

@@ -3,7 +3,7 @@ use Rattle.rules.specs.State.{Book}
 use Rattle.rules.specs.Answer.{bookOf}
 use Rattle.rules.specs.Transcript.{answerLine}
 use Rattle.rules.specs.declared.calls.Line.{Line}
-use Rattle.lines.specs.Writing.{page}
+use Rattle.replies.specs.Writing.{page}
 use Rattle.runner.specs.Step.{replied}
 use Rattle.runner.proofs.Steps.{plain-replied}
 use borrow.Author.Needs.{needs}

@@ -2,7 +2,7 @@ use mathlib.Core.Path.{_≡_, refl, sym, ap, _∙_}
 use Rattle.rules.specs.declared.calls.Call.{Call}
 use Rattle.rules.specs.State.{Book}
 use Rattle.rules.specs.Answer.{bookOf, answer}
-use Rattle.lines.specs.Writing.{page}
+use Rattle.replies.specs.Writing.{page}
 use Rattle.runner.specs.Step.{replied}
 use Rattle.runner.proofs.Steps.{plain-replied}
 use borrow.Author.Needs.{needs}

@@ -42,23 +42,23 @@ use Rattle.rules.proofs.answers.Answer as An
 use Rattle.rules.proofs.answers.Answer.Laws as An′
 use Rattle.history.proofs.Locals.{local, part, slice-at}
 use Rattle.history.proofs.Values.{R, Answers, machA, at-list, sv}
-use Rattle.lines.specs.Writing.{page, put}
+use Rattle.replies.specs.Writing.{page, put}
 use Rattle.runner.specs.Step.{answerText}
 use Rattle.runner.proofs.Pages.{answer-text}
 use Rattle.runner.proofs.LineCalls.{PutAnswer, puts-answer, PutLineFeed, ends-line}
 use Rattle.runner.proofs.traced.put_outcome.Proof.Calls.{PieceCount, counts-pieces, PutPieces, puts-pieces}
-use Rattle.lines.proofs.write.put_answer.Symbol as put-answer-def
-use Rattle.lines.proofs.write.put_answer.Symbol.{name as #put-answer}
-use Rattle.lines.proofs.write.put_answer.Met as put-answer-thm
+use Rattle.replies.proofs.put_answer.Symbol as put-answer-def
+use Rattle.replies.proofs.put_answer.Symbol.{name as #put-answer}
+use Rattle.replies.proofs.put_answer.Met as put-answer-thm
 use Rattle.runner.proofs.traced.piece_count.Symbol as piece-count-def
 use Rattle.runner.proofs.traced.piece_count.Symbol.{name as #piece-count}
 use Rattle.runner.proofs.traced.piece_count.Met as piece-count-thm
 use Rattle.runner.proofs.traced.put_pieces.Symbol as put-pieces-def
 use Rattle.runner.proofs.traced.put_pieces.Symbol.{name as #put-pieces}
 use Rattle.runner.proofs.traced.put_pieces.Met as put-pieces-thm
-use Rattle.lines.proofs.write.put_line_feed.Symbol as put-line-feed-def
-use Rattle.lines.proofs.write.put_line_feed.Symbol.{name as #put-line-feed}
-use Rattle.lines.proofs.write.put_line_feed.Met as put-line-feed-thm
+use Rattle.replies.proofs.put_line_feed.Symbol as put-line-feed-def
+use Rattle.replies.proofs.put_line_feed.Symbol.{name as #put-line-feed}
+use Rattle.replies.proofs.put_line_feed.Met as put-line-feed-thm
 use Rattle.runner.proofs.traced.put_outcome.Key.{name as #put-outcome}
 use Rattle.runner.proofs.traced.put_outcome as f
 use Rattle.runner.proofs.traced.put_outcome.Statement as stated
@@ -148,7 +148,7 @@ put-outcome-spec 𝓤 H 𝓜 𝓖 𝓡 =
     entered 𝓤 H (tripleOf 𝓤 H (𝓖 .A) f.signature (f.spec 𝓤 H (𝓖 .A) (𝓜 .mem) (𝓡 .run)))
     (tables 𝓤 H 𝓜 𝓡 code.env .C) (tables 𝓤 H 𝓜 𝓡 code.env .Λ) #put-outcome code.function (code.unfolded 𝓤 H 𝓜 𝓡)
     (put-outcome-meets 𝓤 H (𝓖 .A) (givenOf 𝓤 H 𝓜 𝓖) (𝓜 .mem) (𝓡 .run) (tablesOf 𝓤 H 𝓜 (tables 𝓤 H 𝓜 𝓡 code.env))
-    (cited 𝓤 H (PutAnswer 𝓤 H (𝓖 .A) (𝓜 .mem) (𝓡 .run)) 𝓜 𝓡 code.env #put-answer put-answer-def.routine code.calls-lines·write·put-answer (put-answer-thm.met 𝓤 H 𝓜 𝓖 𝓡))
+    (cited 𝓤 H (PutAnswer 𝓤 H (𝓖 .A) (𝓜 .mem) (𝓡 .run)) 𝓜 𝓡 code.env #put-answer put-answer-def.routine code.calls-replies·put-answer (put-answer-thm.met 𝓤 H 𝓜 𝓖 𝓡))
     (cited 𝓤 H (PieceCount 𝓤 H (𝓖 .A) (𝓜 .mem) (𝓡 .run)) 𝓜 𝓡 code.env #piece-count piece-count-def.routine code.calls-runner·traced·piece-count (piece-count-thm.met 𝓤 H 𝓜 𝓖 𝓡))
     (cited 𝓤 H (PutPieces 𝓤 H (𝓖 .A) (𝓜 .mem) (𝓡 .run)) 𝓜 𝓡 code.env #put-pieces put-pieces-def.routine code.calls-runner·traced·put-pieces (put-pieces-thm.met 𝓤 H 𝓜 𝓖 𝓡))
-    (cited 𝓤 H (PutLineFeed 𝓤 H (𝓖 .A) (𝓜 .mem) (𝓡 .run)) 𝓜 𝓡 code.env #put-line-feed put-line-feed-def.routine code.calls-lines·write·put-line-feed (put-line-feed-thm.met 𝓤 H 𝓜 𝓖 𝓡)))
+    (cited 𝓤 H (PutLineFeed 𝓤 H (𝓖 .A) (𝓜 .mem) (𝓡 .run)) 𝓜 𝓡 code.env #put-line-feed put-line-feed-def.routine code.calls-replies·put-line-feed (put-line-feed-thm.met 𝓤 H 𝓜 𝓖 𝓡)))

@@ -50,15 +50,15 @@ use Rattle.history.proofs.Loop.{tests, below, next-fits, less, less-wf}
 use Rattle.history.proofs.Locals.{local, part, slice-at}
 use Rattle.history.proofs.Values.{R, at-list, sv, word, refimm, places, cell, spare}
 use Rattle.history.proofs.LotCalls.{LotRead, reads-lot}
-use Rattle.lines.specs.Writing.{page, put}
+use Rattle.replies.specs.Writing.{page, put}
 use Rattle.runner.proofs.Pages.{piecesText, no-pieces, more-pieces, pieces-end}
 use Rattle.runner.proofs.LineCalls.{PutPiece, puts-piece}
 use Rattle.history.proofs.rows.lot_at.Symbol as lot-at-def
 use Rattle.history.proofs.rows.lot_at.Symbol.{name as #lot-at}
 use Rattle.history.proofs.rows.lot_at.Met as lot-at-thm
-use Rattle.lines.proofs.write.put_piece.Symbol as put-piece-def
-use Rattle.lines.proofs.write.put_piece.Symbol.{name as #put-piece}
-use Rattle.lines.proofs.write.put_piece.Met as put-piece-thm
+use Rattle.replies.proofs.put_piece.Symbol as put-piece-def
+use Rattle.replies.proofs.put_piece.Symbol.{name as #put-piece}
+use Rattle.replies.proofs.put_piece.Met as put-piece-thm
 use Rattle.runner.proofs.traced.put_pieces.Key.{name as #put-pieces}
 use Rattle.runner.proofs.traced.put_pieces as f
 use Rattle.runner.proofs.traced.put_pieces.Statement as stated
@@ -197,4 +197,4 @@ put-pieces-spec 𝓤 H 𝓜 𝓖 𝓡 =
     (tables 𝓤 H 𝓜 𝓡 code.env .C) (tables 𝓤 H 𝓜 𝓡 code.env .Λ) #put-pieces code.function (code.unfolded 𝓤 H 𝓜 𝓡)
     (put-pieces-meets 𝓤 H (𝓖 .A) (givenOf 𝓤 H 𝓜 𝓖) (𝓜 .mem) (𝓡 .run) (tablesOf 𝓤 H 𝓜 (tables 𝓤 H 𝓜 𝓡 code.env))
     (cited 𝓤 H (LotRead 𝓤 H (𝓖 .A) (𝓜 .mem) (𝓡 .run)) 𝓜 𝓡 code.env #lot-at lot-at-def.routine code.calls-history·rows·lot-at (lot-at-thm.met 𝓤 H 𝓜 𝓖 𝓡))
-    (cited 𝓤 H (PutPiece 𝓤 H (𝓖 .A) (𝓜 .mem) (𝓡 .run)) 𝓜 𝓡 code.env #put-piece put-piece-def.routine code.calls-lines·write·put-piece (put-piece-thm.met 𝓤 H 𝓜 𝓖 𝓡)))
+    (cited 𝓤 H (PutPiece 𝓤 H (𝓖 .A) (𝓜 .mem) (𝓡 .run)) 𝓜 𝓡 code.env #put-piece put-piece-def.routine code.calls-replies·put-piece (put-piece-thm.met 𝓤 H 𝓜 𝓖 𝓡)))

@@ -59,7 +59,7 @@ use Rattle.history.proofs.Locals.{local, part, slice-at}
 use Rattle.history.proofs.Table.{table-is}
 use Rattle.history.proofs.Values.{R, machOf, no-number-is, zeros-is, Desks, machK, Nonces, machN, at-list, sv, places}
 use Rattle.history.proofs.AskCalls.{Trace}
-use Rattle.lines.specs.Writing.{page}
+use Rattle.replies.specs.Writing.{page}
 use Rattle.runner.specs.declared.step.Stepped.{Stepped}
 use Rattle.runner.specs.Step.{HasTables, repliedOf, replied}
 use Rattle.runner.proofs.step.Stepped as St

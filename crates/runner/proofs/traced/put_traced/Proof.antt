@@ -52,7 +52,7 @@ use Rattle.rules.proofs.answers.Answer.Laws as An′
 use Rattle.history.proofs.Locals.{local, part, slice-at}
 use Rattle.history.proofs.Values.{R, Desks, machK, Nonces, machN, at-list, sv}
 use Rattle.history.proofs.AskCalls.{Trace, asks-trace}
-use Rattle.lines.specs.Writing.{page}
+use Rattle.replies.specs.Writing.{page}
 use Rattle.runner.specs.declared.step.Stepped.{Stepped}
 use Rattle.runner.specs.Step.{HasTables, repliedOf, replied}
 use Rattle.runner.proofs.step.Stepped as St

@@ -3,7 +3,7 @@ use Rattle.runner.proofs.traced.stepped.Statement.{statement}
 use Rattle.runner.proofs.traced.stepped.Tie as tie
 use Rattle.runner.proofs.traced.stepped.Reads as reads
 use Rattle.runner.proofs.traced.stepped.Lts as lts
-use Rattle.lines.proofs.write.reply_number.Reads as reply-number-reads
+use Rattle.replies.proofs.reply_number.Reads as reply-number-reads
 
 -- src/traced.rt:88:17
 reply-number-requires : tie.Need-reply-number-requires

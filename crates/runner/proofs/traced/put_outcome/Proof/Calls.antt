@@ -39,7 +39,7 @@ use Rattle.rules.specs.Transcript.{pieceValues}
 use Rattle.rules.proofs.answers.Answer as An
 use Rattle.rules.proofs.answers.Answer.Laws as An′
 use Rattle.history.proofs.Values.{R, Answers, machA, at-list, sv}
-use Rattle.lines.specs.Writing.{page, put}
+use Rattle.replies.specs.Writing.{page, put}
 use Rattle.runner.specs.Step.{handedCount}
 use Rattle.runner.proofs.traced.piece_count as piece-count
 use Rattle.runner.proofs.traced.piece_count.Symbol.{name as #piece-count}

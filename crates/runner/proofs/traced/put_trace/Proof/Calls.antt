@@ -49,7 +49,7 @@ use Rattle.rules.proofs.desk.Desk as Dk
 use Rattle.rules.proofs.desk.Desk.Laws as Dk′
 use Rattle.history.proofs.Table.{lends-table, table-back}
 use Rattle.history.proofs.Values.{R, machOf, zeros-is, Desks, machK, Nonces, machN, at-list, sv}
-use Rattle.lines.specs.Writing.{page}
+use Rattle.replies.specs.Writing.{page}
 use Rattle.runner.specs.declared.step.Stepped.{Stepped}
 use Rattle.runner.specs.Step.{HasTables, repliedOf, replied}
 use Rattle.runner.proofs.step.Stepped as St

@@ -40,7 +40,7 @@ use Rattle.rules.proofs.desk.Desk.Laws as Dk′
 use Rattle.rules.proofs.answers.Answer as An
 use Rattle.rules.proofs.answers.Answer.Laws as An′
 use Rattle.history.proofs.Values.{R, Desks, machK, Answers, machA, at-list, sv}
-use Rattle.lines.specs.Writing.{page, put}
+use Rattle.replies.specs.Writing.{page, put}
 use Rattle.runner.specs.declared.step.Stepped.{Stepped}
 use Rattle.runner.specs.Step.{steppedOf, answerText}
 use Rattle.runner.proofs.step.Stepped as St

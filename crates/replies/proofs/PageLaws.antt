@@ -1,0 +1,166 @@
+-- What is written on a page: text after text, the digits of a number, the pieces of a reply's line, and that a text for which there is room stands there whole.
+use Prim.Native.Nat.{ℕ, zero, suc, _+_, _-_, _*_, _/_, _%_, _^_, _≤_, _<_}
+use mathlib.Core.Path.{_≡_, refl, sym, ap, _∙_}
+use mathlib.Core.Bool.{Bool, true, false}
+use mathlib.Core.List.{List, [], _∷_, _++_, append-assoc, append-nil}
+use native.Mathlib.Nat.{pow-suc, one-le-pow, pow-le-pow-right}
+use native.Mathlib.Numerals.{add-one}
+use native.Mathlib.Omega.{arith}
+use lib.Dec.{leb}
+use lib.ListN.{length, getD, take, set, length-set, length-append}
+use lib.Seq.{set-out, take-suc, take-suc-set}
+use borrow.Author.Tests.{lt-ltb, le-ltb, leb-true, leb-false}
+use Rattle.io.specs.Digits.{digits, Fewest, glyph}
+use Rattle.rules.specs.declared.rows.Lot.{Lot}
+use Rattle.rules.specs.declared.answers.Tally.{Tally}
+use Rattle.rules.specs.Limits.{highestField}
+use Rattle.rules.specs.Lists.{joined}
+use Rattle.rules.specs.Lines.{lineFeed, spelled, decimal, tabbed}
+use Rattle.rules.specs.Replies.{Reply}
+use Rattle.rules.specs.Answer.{Outcome}
+use Rattle.rules.specs.Transcript.{pieceValues, replyText, endText}
+use Rattle.rules.proofs.Laying.{joined-append}
+use Rattle.rules.proofs.Digits.{decimal-spells}
+use Rattle.rules.proofs.ReadBack.{fitting, length-tabbed}
+use Rattle.replies.specs.Writing.{Page, page, putByte, put, replyStart, replyLine}
+
+-- ---- a byte, and text after text
+pub byte-room : (o : List ℕ) (at b : ℕ) → at < length o → page (set o at b) (at + 1) ≡ put (page o at) (b ∷ [])
+unfolding put putByte
+byte-room o at b h = rw (lt-ltb at (length o) h)
+
+pub byte-none : (o : List ℕ) (at b : ℕ) → length o ≤ at → page o at ≡ put (page o at) (b ∷ [])
+unfolding put putByte
+byte-none o at b h = rw (le-ltb at (length o) h, set-out o at b h)
+
+pub put-nothing : (p : Page) → p ≡ put p []
+unfolding put
+put-nothing p = refl
+
+put-append : (p : Page) (x y : List ℕ) → put p (x ++ y) ≡ put (put p x) y
+unfolding put
+put-append p [] y = refl
+put-append p (b ∷ x) y = put-append (putByte p b) x y
+
+-- what is written in two steps is the two texts, one after the other
+pub put-then : (p : Page) {q r : Page} (x y : List ℕ) → q ≡ put p x → r ≡ put q y → r ≡ put p (x ++ y)
+put-then p x y e f = f ∙ rw e (sym (put-append p x y))
+
+-- the first i bytes of a text, and one more
+pub put-more : (p : Page) {q r : Page} (text : List ℕ) (i : ℕ) → i < length text → q ≡ put p (take i text) → r ≡ put q (getD text i 0 ∷ []) → r ≡ put p (take (i + 1) text)
+put-more p text i h e f = rw (add-one i, take-suc text i 0 h) (put-then p (take i text) (getD text i 0 ∷ []) e f)
+
+-- ---- values after tabs
+pub tabbed-append : (xs ys : List ℕ) → tabbed (xs ++ ys) ≡ tabbed xs ++ tabbed ys
+unfolding tabbed
+tabbed-append xs ys = joined-append (λ n. 9 ∷ decimal n) xs ys
+
+pub tabbed-one : (n : ℕ) → tabbed (n ∷ []) ≡ (9 ∷ []) ++ decimal n
+unfolding tabbed joined
+tabbed-one n = append-nil (9 ∷ decimal n)
+
+-- values after values
+pub put-values : (p : Page) {q r : Page} (xs ys : List ℕ) → q ≡ put p (tabbed xs) → r ≡ put q (tabbed ys) → r ≡ put p (tabbed (xs ++ ys))
+put-values p xs ys e f = rw (tabbed-append xs ys) (put-then p (tabbed xs) (tabbed ys) e f)
+
+-- ---- the digits that the toolchain's writer gives
+glyph-digit : (d : ℕ) → d < 10 → glyph d ≡ 48 + d
+glyph-digit d h = rw (lt-ltb d 10 h)
+
+fewest-spelled : (k j n : ℕ) → k ≤ j → n < 10 ^ suc k → (1 < suc k → 10 ^ k ≤ n) → digits 10 (suc k) n ≡ spelled (suc j) n
+unfolding spelled
+fewest-spelled zero j n h u l =
+    let m : n % 10 ≡ n = omega arith in
+    rw (lt-ltb n 10 u, m, glyph-digit n u)
+fewest-spelled (suc k) zero n h u l = absurd (omega arith)
+fewest-spelled (suc k) (suc j) n h u l =
+    let low : 10 ^ suc k ≤ n = l (omega arith) in
+    let s : 10 ^ suc k ≡ 10 ^ k * 10 = pow-suc 10 k in
+    let one : 1 ≤ 10 ^ k = one-le-pow k 10 (omega arith) in
+    let ten : 10 ≤ n = omega arith in
+    rw (le-ltb n 10 ten, glyph-digit (n % 10) (omega arith))
+    (ap (λ (r : List ℕ). r ++ ((48 + n % 10) ∷ [])) (fewest-spelled k j (n / 10) (omega arith) (omega (arith, pow-suc 10 (suc k))) (λ m. omega arith)))
+
+-- a number that a field can hold has at most 20 digits
+few : (k n : ℕ) → n ≤ highestField → Fewest 10 1 n k → k ≤ 20
+few k n h f = go (leb k 20) refl
+  where
+    go : (t : Bool) → leb k 20 ≡ t → k ≤ 20
+    go true e = leb-true k 20 e
+    go false e =
+        let long : 20 < k = leb-false k 20 e in
+        let low : 10 ^ (k - 1) ≤ n = f .2 (omega arith) in
+        let far : 20 ≤ k - 1 = omega arith in
+        let more : 10 ^ 20 ≤ 10 ^ (k - 1) = pow-le-pow-right {n = 10} (omega arith) {i = 20} {j = k - 1} far in
+        absurd (omega arith)
+
+-- the fewest digits of such a number are its decimal
+pub decimal-digits : (k n : ℕ) → n ≤ highestField → Fewest 10 1 n k → digits 10 k n ≡ decimal n
+unfolding decimal
+decimal-digits zero n h f = absurd (omega (arith, f .0))
+decimal-digits (suc k) n h f =
+    let e : suc k - 1 ≡ k = omega arith in
+    fewest-spelled k 19 n (omega (arith, few (suc k) n h f)) (f .1) (λ m. rw e at (f .2 m))
+
+-- ---- the line of a reply
+start-values : (n : ℕ) (r : Reply) → replyStart n r ≡ decimal n ++ tabbed (r .number ∷ []) ++ tabbed (r .values)
+unfolding replyStart
+start-values n r = rw (tabbed-append (r .number ∷ []) (r .values), ← append-assoc (decimal n) (tabbed (r .number ∷ [])) (tabbed (r .values)))
+
+-- its number alone, and its number and values
+pub start-alone : (p : Page) {q : Page} (n m : ℕ) (r : Reply) → m ≡ r .number → r .values ≡ [] → q ≡ put p (decimal n ++ tabbed (m ∷ [])) → q ≡ put p (replyStart n r)
+unfolding replyStart
+start-alone p n m r e v h = rw (v, ← e) h
+
+pub start-told : (p : Page) {q s : Page} (n m : ℕ) (r : Reply) (vs : List ℕ) → m ≡ r .number → r .values ≡ vs → q ≡ put p (decimal n ++ tabbed (m ∷ []))
+    → s ≡ put q (tabbed vs) → s ≡ put p (replyStart n r)
+start-told p n m r vs e v h k = rw (start-values n r, v, ← e) (put-then p (decimal n ++ tabbed (m ∷ [])) (tabbed vs) h k)
+
+-- a reply's line is its start, its pieces and a line feed
+pub reply-text : (n : ℕ) (o : Outcome) → replyText n o ≡ replyStart n (o .reply) ++ tabbed (joined pieceValues (o .pieces)) ++ (lineFeed ∷ [])
+unfolding replyText replyStart
+reply-text n o =
+    rw (tabbed-append (o .reply .number ∷ o .reply .values) (joined pieceValues (o .pieces)), append-assoc (decimal n) (tabbed (o .reply .number ∷ o .reply .values)) (tabbed (joined pieceValues (o .pieces))))
+
+-- and without pieces it is the whole line that is written for an answer
+pub reply-line : (n : ℕ) (o : Outcome) → o .pieces ≡ [] → replyText n o ≡ replyLine n (o .reply)
+unfolding replyText replyLine replyStart joined
+reply-line n o e = rw (e, append-nil (o .reply .values))
+
+-- one piece more
+pub put-pieces : (p : Page) {q r : Page} (ls : List Lot) (l : Lot) → q ≡ put p (tabbed (joined pieceValues ls)) → r ≡ put q (tabbed (pieceValues l))
+    → r ≡ put p (tabbed (joined pieceValues (ls ++ (l ∷ []))))
+unfolding joined
+put-pieces p ls l e f = rw (joined-append pieceValues ls (l ∷ [])) (put-values p (joined pieceValues ls) (pieceValues l) e f)
+
+-- ---- a text for which there is room
+abbrev pub upto : Page → ℕ
+upto p = p .upto
+
+abbrev pub bytes : Page → List ℕ
+bytes p = p .bytes
+
+pub put-whole : (o : List ℕ) (at : ℕ) (text : List ℕ) (o′ : List ℕ) (r : ℕ) → page o′ r ≡ put (page o at) text → at + length text ≤ length o
+    → (r ≡ at + length text) × (take r o′ ≡ take at o ++ text) × (length o′ ≡ length o)
+unfolding put putByte
+put-whole o at [] o′ r e h =
+    let p : r ≡ at = ap upto e in
+    let q : o′ ≡ o = ap bytes e in
+    (omega arith, rw (p, q, append-nil), rw q)
+put-whole o at (b ∷ bs) o′ r e h =
+    let f : at < length o = omega arith in
+    let s : length (set o at b) ≡ length o = length-set o at b in
+    let w = put-whole (set o at b) (at + 1) bs o′ r (rw (lt-ltb at (length o) f) at e) (omega arith) in
+    (omega arith, w .1 ∙ rw (add-one at, take-suc-set o at b f, append-assoc (take at o) (b ∷ []) bs), w .2 ∙ s)
+
+-- and how much room a reply's line wants up to its pieces, each piece, and the last line: at most 21 bytes for each number with its tab
+pub start-room : (n : ℕ) (r : Reply) → n ≤ highestField → fitting (r .number ∷ r .values) ≡ true → length (replyStart n r) ≤ 41 + 21 * length (r .values)
+unfolding replyStart
+start-room n r h f = rw length-append (omega (arith, decimal-spells n h .short, length-tabbed (r .number ∷ r .values) f))
+
+pub piece-room : (l : Lot) → fitting (pieceValues l) ≡ true → length (tabbed (pieceValues l)) ≤ 42
+piece-room l f = omega (arith, length-tabbed (pieceValues l) f)
+
+pub end-room : (t : Tally) → fitting (t .done ∷ t .other ∷ []) ≡ true → length (endText t) ≤ 46
+unfolding endText Rattle.rules.specs.Lists.bytes
+end-room t f = rw (length-append, length-append) (omega (arith, length-tabbed (t .done ∷ t .other ∷ []) f))
