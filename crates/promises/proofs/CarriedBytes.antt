@@ -19,7 +19,7 @@ use Rattle.promises.specs.Demand1.{outcomes, replyTexts}
 use Rattle.promises.specs.Carried.{callOf, callsOf, callsIn, ended, after, Beginning}
 
 -- ---- the calls of lines
-run-append : (b : Book) (cs ds : List Call) → run b (cs ++ ds) ≡ run (run b cs) ds
+pub run-append : (b : Book) (cs ds : List Call) → run b (cs ++ ds) ≡ run (run b cs) ds
 unfolding run
 run-append b [] ds = refl
 run-append b (c ∷ cs) ds = run-append (bookAfter b c) cs ds

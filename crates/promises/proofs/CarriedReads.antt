@@ -9,7 +9,9 @@ use Rattle.rules.specs.Transcript.{transcript}
 use Rattle.runner.specs.Machine.{Machine, start, feeds, writes, closing}
 use Rattle.runner.specs.Feeding.{Ready, EndsWith}
 use Rattle.runner.specs.Kept.{Kept, machineIn, onPage, Begins, RunSome, Closed}
-use Rattle.runner.proofs.Cuts.{feeds-append, writes-append, machine-transcript}
+use Rattle.rules.specs.Limits.{mostLines}
+use borrow.Author.Tests.{lt-ltb}
+use Rattle.runner.proofs.Cuts.{feeds-append, writes-append, machine-transcript, stopped-transcript}
 use Rattle.promises.specs.Carried.{after, turned, Chain}
 use Rattle.promises.specs.Promises.{Reached}
 use Rattle.promises.proofs.CarriedBytes.{held-book, held-replies, written-begins}
@@ -88,4 +90,5 @@ reached read given k c =
       ready = a .ready;
       within = a .within;
       closed = closes read given k a;
+      stops = λ l more. stopped-transcript read more (rw (← ap (λ (m : Machine). m .line) (a .machine)) (lt-ltb mostLines (k .feeding .running .line) l));
     }

@@ -7,6 +7,10 @@ use Rattle.promises.specs.Types.{Nonce, Payment, Call, Line}
 use Rattle.rules.specs.Lists.{those, joined}
 use Rattle.rules.specs.State.{Book, view}
 use Rattle.rules.specs.Transcript.{InputLine, inputLines, readInput, transcript}
+use Rattle.rules.specs.Answer.{answer, bookOf}
+use Rattle.replies.specs.Writing.{Page}
+use Rattle.runner.specs.declared.step.Stepped.{Stepped}
+use Rattle.runner.specs.Step.{repliedOf, replied}
 use Rattle.runner.specs.Machine.{Machine, start, feeds}
 use Rattle.runner.specs.Kept.{Kept, onPage, Begins, RunSome}
 
@@ -59,3 +63,10 @@ pub data Chain : List ℕ → List ℕ → Kept → Type 0 where
   begins : {k : Kept} → Begins k → Chain [] [] k
   reads : {read given : List ℕ} {before left : Kept} (chunk : List ℕ) (next : ℕ) → Chain read given before → RunSome before chunk next left → Chain (read ++ take next chunk) given left
   gives : {read given : List ℕ} {k : Kept} (out : List ℕ) → Chain read given k → Chain read (given ++ onPage k) (turned k out)
+
+-- calls one after the other, from some book on, each a step of the code by its contract (crate runner, specs/Step), whatever line number and page it is given
+pub data Steps : Book → List Call → Book → Type 0 where
+  none : {b : Book} → Steps b [] b
+  step : {b met : Book} {cs : List Call} (c : Call) (line : ℕ) (text : Page) (r : Stepped) (inbox outbox history out : List ℕ)
+      → Steps b cs met → repliedOf r inbox outbox history out ≡ replied line text (answer met c)
+      → Steps b (cs ++ (c ∷ [])) (bookOf (r .desk) inbox outbox history)

@@ -28,7 +28,7 @@ use Rattle.runner.specs.Feeding.{Ready}
 use Rattle.runner.specs.Kept.{Kept, bookIn, machineIn, onPage, Closed}
 use Rattle.promises.specs.Demand1.{possible, isOneOf, applying, outcomes, replyTexts, doneCount, otherCount, answered, lineFeeds, asRead, isEmpty}
 use Rattle.promises.specs.Demand2.{holderBy, nonceOf, queued, sendCalls, waitingIn, noPayment, claims, claimsLot, made, recordOf, paymentBy, traced, coinsIn}
-use Rattle.promises.specs.Carried.{callsOf, callsIn, ended, after, Beginning, outboxShown, Chain}
+use Rattle.promises.specs.Carried.{callsOf, callsIn, ended, after, Beginning, outboxShown, Chain, Steps}
 
 -- ======== Demand 1. "Every call on every book, and every input line up to line 100,000, ends with an answer from a fixed table. A refused call changes nothing. An absent number is refused, never read as nought."
 
@@ -269,6 +269,8 @@ pub record Reached (read given : List ℕ) (k : Kept) : Type 0 where
   pub within : k .feeding .at ≤ length (k .out)
   -- after `close`, all that was given out, and what stands on the page that it leaves, is the transcript
   pub closed : (out : List ℕ) (at : ℕ) → Closed (k .feeding) (k .hold) (k .out) out at → given ++ take at out ≡ transcript read
+  -- once 100,000 lines are answered, nothing that may still come changes the transcript: bytes that are never read do not matter
+  pub stops : mostLines < k .feeding .running .line → (more : List ℕ) → transcript (read ++ more) ≡ transcript read
 
 pub record TheCode : Type 0 where
   pub fed : (input : List ℕ) → Fed input
@@ -276,6 +278,8 @@ pub record TheCode : Type 0 where
   pub each : EachAnswered
   pub alike : (input input′ : List ℕ) → Alike input input′
   pub chain : (read given : List ℕ) (k : Kept) → Chain read given k → Reached read given k
+  -- and of any calls, from any book on: the book that the steps leave is the one that the calls lead to
+  pub steps : (b left : Book) (cs : List Call) → Steps b cs left → left ≡ run b cs
 
 -- ======== the whole
 pub record Promises : Type 0 where

@@ -201,6 +201,11 @@ pub machine-transcript : (input : List ℕ) → writes start input ++ closing (f
 unfolding start transcript inputLines
 machine-transcript input = going start [] input start-holds
 
+-- "stops after 100,000 lines": whatever else comes, the transcript is the same
+pub stopped-transcript : (read more : List ℕ) → stopped (feeds start read) ≡ true → transcript (read ++ more) ≡ transcript read
+stopped-transcript read more s =
+    rw (← machine-transcript (read ++ more), ← machine-transcript read, writes-append start read more, feeds-append start read more, writes-stopped (feeds start read) s more, feeds-stopped (feeds start read) s more, append-nil (writes start read))
+
 -- for every way to cut the input into reads
 cut-from : (m : Machine) (reads : List (List ℕ)) → writesAll m reads ≡ writes m (joined (λ r. r) reads) ++ closing (feeds m (joined (λ r. r) reads))
 unfolding writesAll joined writes feeds
