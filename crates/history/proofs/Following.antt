@@ -19,8 +19,7 @@ use Rattle.rules.proofs.Tests.{both, both-of, within-true, true-within, all-at,
 use Rattle.rules.proofs.Digits.{all-imply}
 use Rattle.tables.proofs.Rest.{passes, rest, rowAt, rest-all, passes-fails, passes-goes, passes-end}
 use Rattle.lots.proofs.Fits.{Moves, claim-fits, transfer-fits, withdrawal-fits}
-use Rattle.history.specs.declared.frame.Standing.{Standing}
-use Rattle.history.specs.Test.{standingOf, allUpTo, mostBefore, Cell, CanFollow, historyFrame}
+use Rattle.history.specs.Test.{standing, allUpTo, mostBefore, Cell, CanFollow, historyFrame}
 
 -- ---- a balance
 pub cell-in : (m a : ℕ) → Cell m a → isMember m && isAsset a ≡ true
@@ -99,8 +98,8 @@ pub low-first : allUpTo 0 (emptyStanding .balances) ≡ true
 unfolding emptyStanding emptyState all
 low-first = refl
 
-pub can-follow : (i : ℕ) (s : Standing) (r : Record) → i < 1024 → fits (standingOf s) r ≡ true → allUpTo (i * ceiling) (s .balances) ≡ true → CanFollow s r
-can-follow i s r l f h = record { fits = f; low = more-room (i * ceiling) mostBefore (s .balances) (omega arith) h }
+pub can-follow : (i : ℕ) (bs hs : List ℕ) (r : Record) → i < 1024 → fits (standing bs hs) r ≡ true → allUpTo (i * ceiling) bs ≡ true → CanFollow bs hs r
+can-follow i bs hs r l f h = record { fits = f; low = more-room (i * ceiling) mostBefore bs (omega arith) h }
 
 -- ---- the loop over the records
 replays-pass : (s : Replayed) (rs : List Record) → replays s rs ≡ passes fits standingAfter s rs
@@ -135,33 +134,33 @@ module _ (t : List ℕ) (n : ℕ) where
   history-end s i h f = sym (f ∙ passes-end recordShape fits standingAfter n s i t h)
 
 -- ---- what each arm of the code's match asks, of a record that may be followed
-module _ (s : Standing) (r : Record) (can : CanFollow s r) where
+module _ (bs hs : List ℕ) (r : Record) (can : CanFollow bs hs r) where
   -- room above any balance
-  room : (bs : List ℕ) (m a : ℕ) → allUpTo mostBefore bs ≡ true → balance bs m a + r .amount < 18446744073709551616
-  room bs m a h = omega (arith, balance-low mostBefore bs m a h, amount-low (kindOf r) (standingOf s) r (can .fits))
+  room : (xs : List ℕ) (m a : ℕ) → allUpTo mostBefore xs ≡ true → balance xs m a + r .amount < 18446744073709551616
+  room xs m a h = omega (arith, balance-low mostBefore xs m a h, amount-low (kindOf r) (standing bs hs) r (can .fits))
 
-  pub can-claim : kindOf r ≡ Kind.claim → Cell (r .first) (r .asset) × (balance (s .balances) (r .first) (r .asset) + r .amount < 18446744073709551616)
-  can-claim k = (moves-cell r (claim-fits (standingOf s) r (rw k at (can .fits))), room (s .balances) (r .first) (r .asset) (can .low))
+  pub can-claim : kindOf r ≡ Kind.claim → Cell (r .first) (r .asset) × (balance bs (r .first) (r .asset) + r .amount < 18446744073709551616)
+  can-claim k = (moves-cell r (claim-fits (standing bs hs) r (rw k at (can .fits))), room bs (r .first) (r .asset) (can .low))
 
-  pub can-send : kindOf r ≡ Kind.transfer → Cell (r .first) (r .asset) × (r .amount ≤ balance (s .balances) (r .first) (r .asset))
+  pub can-send : kindOf r ≡ Kind.transfer → Cell (r .first) (r .asset) × (r .amount ≤ balance bs (r .first) (r .asset))
   can-send k =
-      let p = transfer-fits (standingOf s) r (rw k at (can .fits)) in
+      let p = transfer-fits (standing bs hs) r (rw k at (can .fits)) in
       (moves-cell r (p .pays .moves), p .pays .covered)
 
   pub can-receive : kindOf r ≡ Kind.transfer
-      → Cell (r .second) (r .asset) × (balance (debit (s .balances) (r .first) (r .asset) (r .amount)) (r .second) (r .asset) + r .amount < 18446744073709551616)
+      → Cell (r .second) (r .asset) × (balance (debit bs (r .first) (r .asset) (r .amount)) (r .second) (r .asset) + r .amount < 18446744073709551616)
   can-receive k =
-      let p = transfer-fits (standingOf s) r (rw k at (can .fits)) in (
+      let p = transfer-fits (standing bs hs) r (rw k at (can .fits)) in (
         cell-of (r .second) (r .asset) (p .second) (p .pays .moves .asset),
-        room (debit (s .balances) (r .first) (r .asset) (r .amount)) (r .second) (r .asset) (debit-low mostBefore (s .balances) (r .first) (r .asset) (r .amount) (can .low)),
+        room (debit bs (r .first) (r .asset) (r .amount)) (r .second) (r .asset) (debit-low mostBefore bs (r .first) (r .asset) (r .amount) (can .low)),
       )
 
-  pub can-pay : kindOf r ≡ Kind.withdrawal → Cell (r .first) (r .asset) × (r .amount ≤ balance (s .balances) (r .first) (r .asset))
+  pub can-pay : kindOf r ≡ Kind.withdrawal → Cell (r .first) (r .asset) × (r .amount ≤ balance bs (r .first) (r .asset))
   can-pay k =
-      let p = withdrawal-fits (standingOf s) r (rw k at (can .fits)) in
+      let p = withdrawal-fits (standing bs hs) r (rw k at (can .fits)) in
       (moves-cell r (p .moves), p .covered)
 
   pub can-grant : kindOf r ≡ Kind.grant → (1 ≤ r .asset) × (r .asset ≤ 8)
   can-grant k =
-      let d = domain-in (standingOf s) r (rw k at (can .fits)) in
+      let d = domain-in (standing bs hs) r (rw k at (can .fits)) in
       (d .low, d .high)

@@ -11,11 +11,10 @@ use Rattle.rules.specs.Tables.{rowsOf, recordShape}
 use Rattle.rules.specs.History.{Standing as Replayed, fits, historyInFrame}
 use Rattle.rules.proofs.Facts.{Within}
 use Rattle.tables.specs.Rows.{lieWithin}
-use Rattle.history.specs.declared.frame.Standing.{Standing}
 
 -- what the code carries, as the rules have it
-abbrev pub standingOf : Standing → Replayed
-standingOf s = record { balances = s .balances; holders = s .holders }
+abbrev pub standing : List ℕ → List ℕ → Replayed
+standing balances holders = record { balances = balances; holders = holders }
 
 -- every one of these is at most so much
 abbrev pub allUpTo : ℕ → List ℕ → Bool
@@ -31,9 +30,9 @@ pub record Cell (m a : ℕ) : Type 0 where
   pub asset : Within 1 8 a
 
 -- what makes it safe to go on after a record: it fits, and no balance is near the largest number
-pub record CanFollow (s : Standing) (r : Record) : Type 0 where
-  pub fits : fits (standingOf s) r ≡ true
-  pub low : allUpTo mostBefore (s .balances) ≡ true
+pub record CanFollow (balances holders : List ℕ) (r : Record) : Type 0 where
+  pub fits : fits (standing balances holders) r ≡ true
+  pub low : allUpTo mostBefore balances ≡ true
 
 -- the first n rows of a table are a history in frame; no more than a history can have, and no more than the table has
 unfoldable pub historyFrame : List ℕ → ℕ → Bool

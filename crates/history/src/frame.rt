@@ -13,17 +13,9 @@ ghost use mathlib.Core.Path.{_≡_};
 ghost use Prim.Native.Nat.{_+_, _-_, _≤_, _<_};
 ghost use lib.ListN.{set};
 ghost use Rattle.rules.specs.Effects.{balance, credit, debit};
-ghost use Rattle.rules.specs.History.{emptyStanding, standingAfter};
+ghost use Rattle.rules.specs.History.{standingAfter};
 ghost use Rattle.rules.specs.History.{fits as recordFits};
-ghost use Rattle.history.specs.Test.{standingOf, Cell, CanFollow, historyFrame};
-
-// What the replay carries from record to record: "at that point of the replay".
-pub struct Standing {
-    // Member m's balance in asset a is at (m - 1) * 8 + (a - 1).
-    pub balances: [u64; 128],
-    // The member who holds domain d is at d - 1.
-    pub holders: [u64; 8],
-}
+ghost use Rattle.history.specs.Test.{standing, Cell, CanFollow, historyFrame};
 
 // Whether the first `records` rows of the table are a history in frame: "The whole used history is
 // tested." More records than a history can have, or than the table has rows, are none.
@@ -36,36 +28,30 @@ pub fn history_in_frame(history: &[u64], records: usize) -> bool
     if history.len() / 5 < records {
         return false;
     }
-    let mut s = before_all();
+    // What the replay carries from record to record, at first an empty book's: all balances 0, and member 1
+    // holding every domain. Both are lent to each record: handed on by value, their copies would be near
+    // half of what a trace costs.
+    let mut balances = [0; 128];
+    let mut holders = [1; 8];
     let mut i: usize = 0;
     while i < records {
         let r = record_at(history, i);
-        if !fits(s, r) {
+        if !fits(&balances, &holders, r) {
             return false;
         }
-        s = after(s, r);
+        follow(&mut balances, &mut holders, r);
         i += 1;
     }
     true
 }
 
-// An empty book's: all balances 0, and member 1 holding every domain.
-fn before_all() -> Standing
-    ensures { λ r. ⌜ standingOf r ≡ emptyStanding ⌝ }
-{
-    Standing {
-        balances: [0; 128],
-        holders: [1; 8],
-    }
-}
-
 // Whether the record has a good kind, every field in its limit, no equal members, and a sender with
-// the amount or the domain.
-fn fits(s: Standing, r: Record) -> bool
-    ensures { λ x. ⌜ x ≡ recordFits (standingOf s) r ⌝ }
+// the amount or the domain, "at that point of the replay".
+fn fits(balances: &[u64; 128], holders: &[u64; 8], r: Record) -> bool
+    ensures { λ x. ⌜ x ≡ recordFits (standing (now (balances .entry)) (now (holders .entry))) r ⌝ }
 {
     let kind = r.kind;
-    let enough = r.amount <= balance_of(&s.balances, r.first, r.asset);
+    let enough = r.amount <= balance_of(balances, r.first, r.asset);
     match kind {
         1 => {
             is_asset(r.asset)
@@ -86,65 +72,58 @@ fn fits(s: Standing, r: Record) -> bool
                 & ((r.amount == 1)
                     & (is_member(r.first)
                         & (is_member(r.second)
-                            & ((r.first != r.second)
-                                & (of_eight(&s.holders, r.asset) == r.first)))))
+                            & ((r.first != r.second) & (of_eight(holders, r.asset) == r.first)))))
         }
         _ => false,
     }
 }
 
 // What a record that fits leaves to the next.
-fn after(s: Standing, r: Record) -> Standing
-    requires { ⌜ CanFollow s r ⌝ }
-    ensures { λ x. ⌜ standingOf x ≡ standingAfter (standingOf s) r ⌝ }
+fn follow(balances: &mut [u64; 128], holders: &mut [u64; 8], r: Record)
+    requires { ⌜ CanFollow (now balances) (now holders) r ⌝ }
+    ensures { λ _. ⌜ standing (now (balances .exit)) (now (holders .exit)) ≡ standingAfter (standing (now (balances .entry)) (now (holders .entry))) r ⌝ }
 {
     let kind = r.kind;
     match kind {
-        1 => credited(s, r.first, r.asset, r.amount),
+        1 => credited(balances, r.first, r.asset, r.amount),
         2 => {
-            let sent = debited(s, r.first, r.asset, r.amount);
-            credited(sent, r.second, r.asset, r.amount)
+            debited(balances, r.first, r.asset, r.amount);
+            credited(balances, r.second, r.asset, r.amount);
         }
-        3 => debited(s, r.first, r.asset, r.amount),
-        4 => granted(s, r.asset, r.second),
-        _ => s,
+        3 => debited(balances, r.first, r.asset, r.amount),
+        4 => granted(holders, r.asset, r.second),
+        _ => {}
     }
 }
 
-// One balance grows.
-fn credited(s: Standing, m: u64, a: u64, x: u64) -> Standing
+// One balance grows. Member m's balance in asset a is at (m - 1) * 8 + (a - 1).
+fn credited(balances: &mut [u64; 128], m: u64, a: u64, x: u64)
     requires { ⌜ Cell m a ⌝ }
-    requires { ⌜ balance (s .balances) m a + x < 18446744073709551616 ⌝ }
-    ensures { λ r. ⌜ r ≡ record { balances = credit (s .balances) m a x; holders = s .holders } ⌝ }
+    requires { ⌜ balance (now balances) m a + x < 18446744073709551616 ⌝ }
+    ensures { λ _. ⌜ now (balances .exit) ≡ credit (now (balances .entry)) m a x ⌝ }
 {
     let at = ((m - 1) * 8 + (a - 1)) as usize;
-    let old = s.balances[at];
-    let mut next = s;
-    next.balances[at] = old + x;
-    next
+    let old = balances[at];
+    balances[at] = old + x;
 }
 
 // One balance falls.
-fn debited(s: Standing, m: u64, a: u64, x: u64) -> Standing
+fn debited(balances: &mut [u64; 128], m: u64, a: u64, x: u64)
     requires { ⌜ Cell m a ⌝ }
-    requires { ⌜ x ≤ balance (s .balances) m a ⌝ }
-    ensures { λ r. ⌜ r ≡ record { balances = debit (s .balances) m a x; holders = s .holders } ⌝ }
+    requires { ⌜ x ≤ balance (now balances) m a ⌝ }
+    ensures { λ _. ⌜ now (balances .exit) ≡ debit (now (balances .entry)) m a x ⌝ }
 {
     let at = ((m - 1) * 8 + (a - 1)) as usize;
-    let old = s.balances[at];
-    let mut next = s;
-    next.balances[at] = old - x;
-    next
+    let old = balances[at];
+    balances[at] = old - x;
 }
 
-// The domain passes to another member.
-fn granted(s: Standing, domain: u64, to: u64) -> Standing
+// The domain passes to another member. The member who holds domain d is at d - 1.
+fn granted(holders: &mut [u64; 8], domain: u64, to: u64)
     requires { ⌜ 1 ≤ domain ⌝ }
     requires { ⌜ domain ≤ 8 ⌝ }
-    ensures { λ r. ⌜ r ≡ record { balances = s .balances; holders = set (s .holders) (domain - 1) to } ⌝ }
+    ensures { λ _. ⌜ now (holders .exit) ≡ set (now (holders .entry)) (domain - 1) to ⌝ }
 {
     let at = (domain - 1) as usize;
-    let mut next = s;
-    next.holders[at] = to;
-    next
+    holders[at] = to;
 }
