@@ -1,4 +1,4 @@
--- What carries the demands to the code is not empty: what three reads come to, and a chain of them. All by computation.
+-- What carries the demands to the code is not empty: what three reads come to, and a chain of the first and a part of the second. All by computation.
 use mathlib.Core.Path.{_≡_, refl}
 use mathlib.Core.List.{[], _∷_, _++_}
 use native.Mathlib.Omega.{arith}

@@ -16,7 +16,7 @@ secondRead = bytes "sit\t1\t3\t500\t2\nsend\ncl"
 abbrev pub lastRead : List ℕ
 lastRead = bytes "aim"
 
--- what the code keeps where it stands for this machine: a buffer of 121 bytes that begins with those held, and a page of 100 bytes that begins with this text
+-- what the code keeps where it stands for this machine: a buffer of 121 bytes that begins with those held, and a page of 100 bytes that begins with this text. The code itself takes a line only with 45,000 bytes free; the contract leaves open how far it comes, so this page is small for the sake of computing
 unfoldable pub keptAs : Machine → List ℕ → Kept
 keptAs m text =
     record {
