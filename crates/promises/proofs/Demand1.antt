@@ -1,5 +1,6 @@
 -- Demand 1, proved.
 use Rattle.promises.specs.Promises.{Demand1}
+use Rattle.promises.proofs.Asked.{lent-trace, question, never-small}
 use Rattle.promises.proofs.Replies.{numbered, refused, line-answered}
 use Rattle.promises.proofs.Lines.{answers}
 use Rattle.promises.proofs.Cut.{cut}
@@ -8,4 +9,4 @@ use Rattle.promises.proofs.ReadNumbers.{reading}
 
 -- the whole of demand 1
 pub demand1 : Demand1
-demand1 = record { calls = numbered; refused = refused; lines = line-answered; cut = cut; answers = answers; emptyFields = empty-fields; reading = reading }
+demand1 = record { calls = numbered; refused = refused; lentTraces = lent-trace; questions = question; neverSmall = never-small; lines = line-answered; cut = cut; answers = answers; emptyFields = empty-fields; reading = reading }

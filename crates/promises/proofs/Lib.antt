@@ -1,4 +1,5 @@
 -- The proofs of the promises: demand 1, demand 2, demand 3, what carries them to the code, and all of them; then the examples.
+pub mod Asked
 pub mod Base
 pub mod Smallest
 pub mod Replies

@@ -87,11 +87,23 @@ pub record Reading : Type 0 where
   pub written : (c : Call) → all (λ n. leb n highestField) (numbersOf c) ≡ true → readLine (writeLine c) ≡ Line.Reads c
   pub noneMissing : (s : List ℕ) (c : Call) → readLine s ≡ Line.Reads c → numbers (drop 1 (fields s)) ≡ Numbers.allRead (numbersOf c)
 
+-- the library's trace, lent any two tables: it gets 0, 2, 20 or 21, and refused it tells no values and leaves both tables as found
+pub record LentTrace (b : Book) (work out : List Lot) (n : Nonce) : Type 0 where
+  pub oneOfItsOwn : isOneOf (traceAnswer b work out n .reply .number) (0 ∷ 2 ∷ 20 ∷ 21 ∷ []) ≡ true
+  pub noValues : traceAnswer b work out n .reply .number ≢ 0 → traceAnswer b work out n .reply .values ≡ []
+  pub workKept : traceAnswer b work out n .reply .number ≢ 0 → traceAnswer b work out n .work ≡ work
+  pub piecesKept : traceAnswer b work out n .reply .number ≢ 0 → traceAnswer b work out n .pieces ≡ out
+
 pub record Demand1 : Type 0 where
   -- every call on every book ends with an answer from the table
   pub calls : (b : Book) (c : Call) → Numbered b c
   -- a refused call changes nothing
   pub refused : (b : Book) (c : Call) → answer b c .reply .number ≢ 0 → Unchanged b (answer b c)
+  -- the same of a trace that is lent its tables, whatever they are; and the library's question for a provenance gets 0, 2, 3 or 4
+  pub lentTraces : (b : Book) (work out : List Lot) (n : Nonce) → LentTrace b work out n
+  pub questions : (b : Book) (m a : ℕ) → isOneOf (provenanceAnswer b m a .number) (0 ∷ 2 ∷ 3 ∷ 4 ∷ []) ≡ true
+  -- a call to trace is never answered 20 TableSmall: its tables have a row for every record that a book in frame can have
+  pub neverSmall : (b : Book) (n : Nonce) → answer b (Call.Trace n) .reply .number ≢ 20
   -- the same of every line on every book
   pub lines : (b : Book) (l : Line) → LineAnswered b l
   -- every input, whatever its bytes, is cut into lines
