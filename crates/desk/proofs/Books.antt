@@ -24,7 +24,7 @@ use Rattle.rules.specs.Frame.{upToCeiling, inFrame}
 use Rattle.rules.specs.Answer.{Outcome, answer, replyNumber, replyWith, doneAnswer, piecesOf, bookOf, outcomeOf}
 use Rattle.rules.proofs.Laying.{length-rows, lay-edited}
 use Rattle.rules.proofs.Shapes.{depositSound, paymentSound, recordSound}
-use Rattle.rules.proofs.Tests.{both, all-at}
+use Rattle.rules.proofs.Tests.{both, all-at, ands-at}
 use Rattle.rules.proofs.Facts.{Accepted}
 use Rattle.rules.proofs.Accepts.{accepted-frame, not-done}
 use Rattle.tables.specs.Rows.{putAt}
@@ -69,13 +69,6 @@ pub record Framed (b : Book) : Type 0 where
   pub settled : all upToCeiling (b .desk .settled) ≡ true
   pub last : b .desk .last .0 ≤ 4294967295
   pub next : b .desk .next .0 ≤ 1024
-
--- the clause at a place
-ands-at : (ts : List Bool) (k : ℕ) → ands ts ≡ true → getD ts k true ≡ true
-unfolding ands
-ands-at [] k h = refl
-ands-at (t ∷ ts) zero h = both t (ands ts) h .0
-ands-at (t ∷ ts) (suc k) h = ands-at ts k (both t (ands ts) h .1)
 
 pub framed : (b : Book) → inFrame b ≡ true → Framed b
 unfolding inFrame

@@ -85,12 +85,12 @@ agrees-through (r ∷ rest) h s ls g f =
 
 -- ---- from an empty book on
 -- a cell of zeros is 0, and so is a balance
-zeros : (k i : ℕ) → _≡_ {A = ℕ} (getD (replicate k 0) i 0) 0
+pub zeros : (k i : ℕ) → _≡_ {A = ℕ} (getD (replicate k 0) i 0) 0
 zeros zero i = refl
 zeros (suc k) zero = refl
 zeros (suc k) (suc i) = zeros k i
 
-zero-balance : (k n b : ℕ) → balance (replicate k 0) n b ≡ 0
+pub zero-balance : (k n b : ℕ) → balance (replicate k 0) n b ≡ 0
 unfolding balance
 zero-balance k n b = go (isMember n && isAsset b)
   where

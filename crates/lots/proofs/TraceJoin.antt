@@ -22,13 +22,7 @@ use Rattle.rules.specs.History.{withdrawals, historyInFrame}
 use Rattle.rules.specs.Lots.{pieces}
 use Rattle.rules.specs.Answer.{frameTest, replyNumber, piecesOf, doneAnswer, answer, inFront, traceNumber, traceAnswer}
 use Rattle.rules.proofs.Laying.{length-rows}
-
--- where all of these hold, each does
-ands-at : (ts : List Bool) (k : ℕ) → ands ts ≡ true → getD ts k true ≡ true
-unfolding ands
-ands-at [] k h = refl
-ands-at (t ∷ ts) zero h = and-eq-true-iff t (ands ts) .0 h .0
-ands-at (t ∷ ts) (suc k) h = ands-at ts k (and-eq-true-iff t (ands ts) .0 h .1)
+use Rattle.rules.proofs.Tests.{ands-at}
 
 -- a book in frame has at most as many records as the table has rows
 pub records-fit : (b : Book) → inFrame b ≡ true → length (historyOf b) ≤ historyRows

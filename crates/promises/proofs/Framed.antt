@@ -14,7 +14,7 @@ use Rattle.rules.specs.State.{State, Book, view, laid, deskOf, payments, inboxO
 use Rattle.rules.specs.Frame.{hasRows, upToCeiling, depositInLimits, paymentInLimits, numbersRise, noncesRise, inFrame}
 use Rattle.rules.proofs.Laying.{length-rows, rows-laid}
 use Rattle.rules.proofs.Shapes.{depositSound, paymentSound}
-use Rattle.rules.proofs.Tests.{both}
+use Rattle.rules.proofs.Tests.{ands-at}
 
 -- the lent tables have their sizes
 pub record Sized (b : Book) : Type 0 where
@@ -38,69 +38,35 @@ pub record Framed (s : State) : Type 0 where
   pub next : s .outside .next .0 ≤ highestNext
   pub holders : all isMember (s .holders) ≡ true
 
--- of tests that all hold the one at any place holds
-ands-at : (ts : List Bool) (k : ℕ) → ands ts ≡ true → getD ts k true ≡ true
-unfolding ands
-ands-at [] k h = refl
-ands-at (t ∷ ts) zero h = both t (ands ts) h .0
-ands-at (t ∷ ts) (suc k) h = ands-at ts k (both t (ands ts) h .1)
-
--- the tests of a book in frame
-unfoldable pub tests : Book → List Bool
-tests b =
-    hasRows depositShape inboxRows (b .inbox)
-    ∷ hasRows paymentShape outboxRows (b .outbox)
-    ∷ hasRows recordShape historyRows (b .history)
-    ∷ leb (b .desk .unclaimed) inboxRows
-    ∷ leb (b .desk .payments) outboxRows
-    ∷ leb (b .desk .records) historyRows
-    ∷ leb (b .desk .inflight) (b .desk .payments)
-    ∷ all upToCeiling (b .desk .balances)
-    ∷ all upToCeiling (b .desk .lifetime)
-    ∷ all upToCeiling (b .desk .settled)
-    ∷ all depositInLimits (inboxOf b)
-    ∷ all paymentInLimits (outboxOf b)
-    ∷ numbersRise 0 (b .desk .last .0) (inboxOf b)
-    ∷ noncesRise (b .desk .next .0) (outboxOf b)
-    ∷ leb (b .desk .last .0) highestNumber
-    ∷ leb (b .desk .next .0) highestNext
-    ∷ all isMember (b .desk .holders)
-    ∷ []
-
--- each of them holds
-pub passed : (b : Book) → inFrame b ≡ true → (k : ℕ) → getD (tests b) k true ≡ true
-unfolding inFrame tests
-passed b h k = ands-at (tests b) k h
-
 -- a book in frame has tables of the right size
 pub sized : (b : Book) → inFrame b ≡ true → Sized b
-unfolding tests
+unfolding inFrame
 sized b h =
     record {
-      inboxSize = eqb-true (length (b .inbox)) 256 (passed b h 0);
-      outboxSize = eqb-true (length (b .outbox)) 128 (passed b h 1);
-      historySize = eqb-true (length (b .history)) 5120 (passed b h 2);
+      inboxSize = eqb-true (length (b .inbox)) 256 (ands-at _ 0 h);
+      outboxSize = eqb-true (length (b .outbox)) 128 (ands-at _ 1 h);
+      historySize = eqb-true (length (b .history)) 5120 (ands-at _ 2 h);
     }
 
 -- and its state is framed
 pub framed : (b : Book) → inFrame b ≡ true → Framed (view b)
-unfolding tests view
+unfolding inFrame view
 framed b h =
     let out : take (b .desk .inflight) (outboxOf b) ++ drop (b .desk .inflight) (outboxOf b) ≡ outboxOf b = take-append-drop (b .desk .inflight) (outboxOf b) in
     record {
-      unclaimed = rw (length-rows depositShape (b .desk .unclaimed) (b .inbox)) (leb-true (b .desk .unclaimed) 64 (passed b h 3));
-      queued = rw (out, length-rows paymentShape (b .desk .payments) (b .outbox)) (leb-true (b .desk .payments) 32 (passed b h 4));
-      records = rw (length-rows recordShape (b .desk .records) (b .history)) (leb-true (b .desk .records) 1024 (passed b h 5));
-      balances = passed b h 7;
-      lifetime = passed b h 8;
-      settled = passed b h 9;
-      inboxFields = passed b h 10;
-      outboxFields = rw out (passed b h 11);
-      numbers = passed b h 12;
-      nonces = rw out (passed b h 13);
-      last = leb-true (b .desk .last .0) highestNumber (passed b h 14);
-      next = leb-true (b .desk .next .0) highestNext (passed b h 15);
-      holders = passed b h 16;
+      unclaimed = rw (length-rows depositShape (b .desk .unclaimed) (b .inbox)) (leb-true (b .desk .unclaimed) 64 (ands-at _ 3 h));
+      queued = rw (out, length-rows paymentShape (b .desk .payments) (b .outbox)) (leb-true (b .desk .payments) 32 (ands-at _ 4 h));
+      records = rw (length-rows recordShape (b .desk .records) (b .history)) (leb-true (b .desk .records) 1024 (ands-at _ 5 h));
+      balances = ands-at _ 7 h;
+      lifetime = ands-at _ 8 h;
+      settled = ands-at _ 9 h;
+      inboxFields = ands-at _ 10 h;
+      outboxFields = rw out (ands-at _ 11 h);
+      numbers = ands-at _ 12 h;
+      nonces = rw out (ands-at _ 13 h);
+      last = leb-true (b .desk .last .0) highestNumber (ands-at _ 14 h);
+      next = leb-true (b .desk .next .0) highestNext (ands-at _ 15 h);
+      holders = ands-at _ 16 h;
     }
 
 -- a framed state, laid into tables that keep their sizes, is in frame

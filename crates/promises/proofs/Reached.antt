@@ -21,6 +21,7 @@ use Rattle.lots.specs.Traces.{standingThrough}
 use Rattle.promises.specs.Demand2.{heldAfter}
 use Rattle.rules.proofs.Tests.{true-within}
 use Rattle.rules.proofs.Accepts.{accepted-frame, fit}
+use Rattle.lots.proofs.Agreement.{zeros, zero-balance}
 use Rattle.promises.proofs.Base.{view-empty, run-keeps}
 use Rattle.promises.proofs.Framed.{Framed, framed, in-frame}
 use Rattle.promises.proofs.TableSizes.{sized-laid}
@@ -52,21 +53,7 @@ good-kept b c a g =
     }
 
 -- ---- an empty book
--- zeros are 0 wherever one looks
-zeros : (n i : ℕ) → _≡_ {A = ℕ} (getD (replicate n 0) i 0) 0
-zeros zero i = refl
-zeros (suc n) zero = refl
-zeros (suc n) (suc i) = zeros n i
-
--- so every balance, every total and every sum of balances is 0
-balance-zeros : (n m a : ℕ) → balance (replicate n 0) m a ≡ 0
-unfolding balance
-balance-zeros n m a = go (isMember m && isAsset a)
-  where
-    go : (t : Bool) → _≡_ {A = ℕ} (cond t (getD (replicate n 0) (cell m a) 0) 0) 0
-    go true = zeros n (cell m a)
-    go false = refl
-
+-- every balance, every total and every sum of balances is 0
 pub total-zeros : (n a : ℕ) → total (replicate n 0) a ≡ 0
 unfolding total
 total-zeros n a = go (isAsset a)
@@ -78,7 +65,7 @@ total-zeros n a = go (isAsset a)
 all-zeros : (n a : ℕ) (ms : List ℕ) → sumOf (λ m. balance (replicate n 0) m a) ms ≡ 0
 unfolding sumOf
 all-zeros n a [] = refl
-all-zeros n a (m ∷ ms) = rw (balance-zeros n m a, all-zeros n a ms)
+all-zeros n a (m ∷ ms) = rw (zero-balance n m a, all-zeros n a ms)
 
 -- and member 1 holds every domain
 holder-ones : (d : ℕ) → Within 1 domainCount d → holder (replicate domainCount 1) d ≡ 1

@@ -12,7 +12,8 @@ use Rattle.rules.specs.Tables.{Shape, Sound, lay, depositShape, paymentShape, r
 use Rattle.rules.specs.State.{State, Book, laid, payments}
 use Rattle.rules.specs.Frame.{inFrame}
 use Rattle.rules.proofs.Shapes.{depositSound, paymentSound, recordSound}
-use Rattle.promises.proofs.Framed.{Framed, Sized, tests, passed, sized}
+use Rattle.rules.proofs.Tests.{ands-at}
+use Rattle.promises.proofs.Framed.{Framed, Sized, sized}
 
 -- ---- laying keeps a table's size
 module _ {A : Type 0} (shape : Shape A) (sound : Sound shape) where
@@ -40,12 +41,12 @@ module _ {A : Type 0} (shape : Shape A) (sound : Sound shape) where
 
 -- a book in frame with a framed state laid into it keeps its tables' sizes
 pub sized-laid : (s : State) (b : Book) → inFrame b ≡ true → Framed s → Sized (laid s b)
-unfolding laid tests
+unfolding laid inFrame
 sized-laid s b h f =
     let z : Sized b = sized b h in
-    let u : b .desk .unclaimed ≤ 64 = leb-true (b .desk .unclaimed) 64 (passed b h 3) in
-    let p : b .desk .payments ≤ 32 = leb-true (b .desk .payments) 32 (passed b h 4) in
-    let r : b .desk .records ≤ 1024 = leb-true (b .desk .records) 1024 (passed b h 5) in
+    let u : b .desk .unclaimed ≤ 64 = leb-true (b .desk .unclaimed) 64 (ands-at _ 3 h) in
+    let p : b .desk .payments ≤ 32 = leb-true (b .desk .payments) 32 (ands-at _ 4 h) in
+    let r : b .desk .records ≤ 1024 = leb-true (b .desk .records) 1024 (ands-at _ 5 h) in
     record {
       inboxSize = length-lay depositShape depositSound (s .inbox) (b .desk .unclaimed) (b .inbox) (omega arith) ∙ z .inboxSize;
       outboxSize = length-lay paymentShape paymentSound (payments (s .outside)) (b .desk .payments) (b .outbox) (omega arith) ∙ z .outboxSize;

@@ -8,7 +8,7 @@ use lib.Dec.{leb}
 use lib.ListN.{length, getD, set}
 use borrow.Author.Tests.{leb-true, le-leb}
 use Rattle.rules.specs.Limits.{within}
-use Rattle.rules.specs.Lists.{all}
+use Rattle.rules.specs.Lists.{all, ands}
 use Rattle.rules.specs.Replies.{smaller, smallest}
 use Rattle.rules.proofs.Facts.{Within}
 
@@ -20,6 +20,13 @@ both a b h = and-eq-true-iff a b .0 h
 -- and the other way round
 pub both-of : (a b : Bool) → a ≡ true → b ≡ true → a && b ≡ true
 both-of a b p q = rw (p, q)
+
+-- of tests that all hold the one at any place holds
+pub ands-at : (ts : List Bool) (k : ℕ) → ands ts ≡ true → getD ts k true ≡ true
+unfolding ands
+ands-at [] k h = refl
+ands-at (t ∷ ts) zero h = both t (ands ts) h .0
+ands-at (t ∷ ts) (suc k) h = ands-at ts k (both t (ands ts) h .1)
 
 -- a refusal that does not apply: what it asks the opposite of holds
 pub twice-not : (t : Bool) → not (not t) ≡ true → t ≡ true

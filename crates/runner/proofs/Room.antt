@@ -25,7 +25,8 @@ use Rattle.lots.proofs.TraceJoin.{records-fit}
 use Rattle.rules.specs.declared.answers.Tally.{Tally}
 use Rattle.rules.specs.Transcript.{pieceValues, replyText, answerLine, endText}
 use Rattle.runner.specs.Machine.{Machine, stopped, outcomeFor, written, unfinishedText, ended, closing}
-use Rattle.replies.specs.Writing.{Page, page, putByte, put}
+use Rattle.replies.specs.Writing.{page, put}
+use Rattle.replies.proofs.PageLaws.{put-whole}
 use Rattle.runner.specs.declared.feed.Feeding.{Feeding}
 use Rattle.runner.specs.Feeding.{fedMachine, Closes, EndsWith}
 use Rattle.runner.specs.Kept.{Closed}
@@ -70,36 +71,6 @@ line-length n m vs ps v p =
 pub reply-length : (n : ℕ) (o : Outcome) → length (o .reply .values) ≤ 4 → length (o .pieces) ≤ 1024 → length (replyText n o) ≤ 43134
 unfolding replyText
 reply-length n o v p = line-length n (o .reply .number) (o .reply .values) (o .pieces) v p
-
--- ---- a text with room for it
-put-room : (o : List ℕ) (at b : ℕ) → at < length o → putByte (page o at) b ≡ page (set o at b) (suc at)
-unfolding putByte
-put-room o at b h = let e = lt-ltb at (length o) h in rw e (ap (page (set o at b)) (omega arith))
-
--- what the page then holds up to its place, and where that is
-pub put-whole : (o : List ℕ) (at : ℕ) (text : List ℕ) → at + length text ≤ length o
-    → take (put (page o at) text .upto) (put (page o at) text .bytes) ≡ take at o ++ text
-unfolding put
-put-whole o at [] h = sym (append-nil (take at o))
-put-whole o at (b ∷ text) h =
-    ap (λ (p : Page). take (put p text .upto) (put p text .bytes)) (put-room o at b (omega arith))
-    ∙ put-whole (set o at b) (suc at) text (let e = length-set o at b in omega arith)
-    ∙ ap (λ (t : List ℕ). t ++ text) (take-suc-set o at b (omega arith))
-    ∙ append-assoc (take at o) (b ∷ []) text
-
-pub put-upto : (o : List ℕ) (at : ℕ) (text : List ℕ) → at + length text ≤ length o
-    → put (page o at) text .upto ≡ at + length text
-unfolding put
-put-upto o at [] h = omega arith
-put-upto o at (b ∷ text) h =
-    ap (λ (p : Page). put p text .upto) (put-room o at b (omega arith))
-    ∙ put-upto (set o at b) (suc at) text (let e = length-set o at b in omega arith)
-    ∙ (omega arith)
-
-pub put-size : (p : Page) (text : List ℕ) → length (put p text .bytes) ≡ length (p .bytes)
-unfolding put putByte
-put-size p [] = refl
-put-size p (b ∷ text) = put-size (putByte p b) text ∙ length-set (p .bytes) (p .upto) b
 
 -- ---- what a line is answered
 values-few : (a : Answer) → length (told a .values) ≤ 4
@@ -177,24 +148,16 @@ closing-fits m = go (stopped m)
 -- ---- a page on which all is written that was to be
 pub whole : (o o₀ : List ℕ) (at at₀ : ℕ) (text : List ℕ) → page o at ≡ put (page o₀ at₀) text → at₀ + length text ≤ length o₀
     → (take at o ≡ take at₀ o₀ ++ text) × (at ≤ length o)
-whole o o₀ at at₀ text e h =
-    let x : at ≡ put (page o₀ at₀) text .upto = ap (λ (p : Page). p .upto) e in
-    let y : o ≡ put (page o₀ at₀) text .bytes = ap (λ (p : Page). p .bytes) e in
-    let u = put-upto o₀ at₀ text h in
-    let z : length o ≡ length o₀ = ap (λ (t : List ℕ). length t) y ∙ put-size (page o₀ at₀) text in
-    (rw (x, y) (put-whole o₀ at₀ text h), omega (arith, x, u, z, h))
+whole o o₀ at at₀ text e h = let w = put-whole o₀ at₀ text o at e h in (w .1, omega (arith, w .0, w .2, h))
 
 pub fits-more : (m : Machine) (b : ℕ) (o o₀ : List ℕ) (at at₀ : ℕ) (text : List ℕ) → page o at ≡ put (page o₀ at₀) text → at₀ + length text ≤ length o₀
     → leb 45000 (length o - at) ≡ true → at₀ + length (text ++ written m b) ≤ length o₀
 fits-more m b o o₀ at at₀ text e h r =
-    let x : at ≡ put (page o₀ at₀) text .upto = ap (λ (p : Page). p .upto) e in
-    let y : o ≡ put (page o₀ at₀) text .bytes = ap (λ (p : Page). p .bytes) e in
-    let u = put-upto o₀ at₀ text h in
-    let z : length o ≡ length o₀ = ap (λ (t : List ℕ). length t) y ∙ put-size (page o₀ at₀) text in
+    let p = put-whole o₀ at₀ text o at e h in
     let w = written-fits m b in
     let l = length-append text (written m b) in
     let q = leb-true 45000 (length o - at) r in
-    omega (arith, x, u, z, w, l, q, h)
+    omega (arith, p .0, p .2, w, l, q, h)
 
 -- at the end of the input there is room for what comes last, whatever the tables hold
 pub closed-all : (f : Feeding) (hold o₀ o : List ℕ) (at : ℕ) → Closes f hold (page o₀ (f .at)) (page o at) → f .at + 45000 ≤ length o₀ → Closed f hold o₀ o at
