@@ -17,7 +17,7 @@ use Rattle.rules.specs.State.{Book}
 use Rattle.rules.specs.Frame.{hasRows, depositInLimits, paymentInLimits, numbersRise, noncesFrom, noncesRise, inFrame}
 use Rattle.rules.proofs.Laying.{length-rows}
 use Rattle.tables.proofs.Rest.{passes, rest, rowAt, rest-all, passes-fails, passes-goes, passes-end, cell, cell0}
-use Rattle.desk.specs.Parts.{inboxFrame, outboxFrame, listsFrame, countsFrame}
+use Rattle.desk.specs.Parts.{inboxFrame, outboxFrame, listsFrame, countsFrame, countsOf}
 use Rattle.desk.proofs.Laws.{two-by-two, and-left-comm}
 
 -- ---- the inbox
@@ -128,6 +128,6 @@ regroup c1 c2 c3 c4 c5 c6 c7 c8 c9 c10 c11 c12 c13 c14 c15 c16 c17 = simp (and-t
 
 pub frame-parts : (b : Book)
     → inFrame b
-    ≡ countsFrame (b .desk) (length (b .history)) && (listsFrame (b .desk) && (inboxFrame (b .inbox) (b .desk .unclaimed) (b .desk .last .0) && outboxFrame (b .outbox) (b .desk .payments) (b .desk .next .0)))
+    ≡ countsFrame (countsOf (b .desk)) (length (b .history)) && (listsFrame (b .desk .balances) (b .desk .holders) (b .desk .lifetime) (b .desk .settled) && (inboxFrame (b .inbox) (b .desk .unclaimed) (b .desk .last .0) && outboxFrame (b .outbox) (b .desk .payments) (b .desk .next .0)))
 unfolding inFrame countsFrame listsFrame inboxFrame outboxFrame
 frame-parts b = regroup _ _ _ _ _ _ _ _ _ _ _ _ _ _ _ _ _

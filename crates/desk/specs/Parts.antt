@@ -6,6 +6,7 @@ use lib.Dec.{leb, eqb}
 use lib.ListN.{getD}
 use Rattle.rules.specs.declared.desk.Desk.{Desk}
 use Rattle.rules.specs.declared.answers.Answer.{Answer}
+use Rattle.desk.specs.declared.frame.Counts.{Counts}
 use Rattle.rules.specs.Limits.{within, ceiling, inboxRows, outboxRows, historyRows, highestNumber, highestNext, isMember}
 use Rattle.rules.specs.Lists.{all}
 use Rattle.rules.specs.Tables.{rowsOf, depositShape, paymentShape, recordShape}
@@ -21,15 +22,35 @@ outboxFrame t n next =
     hasRows paymentShape outboxRows t
     && (leb n outboxRows && (all paymentInLimits (rowsOf paymentShape n t) && noncesRise next (rowsOf paymentShape n t)))
 
+-- a desk in its parts: its counts and counters, and the desk that has them and these lists
+abbrev pub countsOf : Desk → Counts
+countsOf d = record { last = d .last; next = d .next; unclaimed = d .unclaimed; payments = d .payments; inflight = d .inflight; records = d .records }
+
+abbrev pub deskWith : List ℕ → List ℕ → List ℕ → List ℕ → Counts → Desk
+deskWith balances holders lifetime settled c =
+    record {
+      balances = balances;
+      holders = holders;
+      lifetime = lifetime;
+      settled = settled;
+      last = c .last;
+      next = c .next;
+      unclaimed = c .unclaimed;
+      payments = c .payments;
+      inflight = c .inflight;
+      records = c .records;
+    }
+
 -- the desk's lists: balances and totals up to the ceiling, and holders that are members
-unfoldable pub listsFrame : Desk → Bool
-listsFrame d = all upToCeiling (d .balances) && (all upToCeiling (d .lifetime) && (all upToCeiling (d .settled) && all isMember (d .holders)))
+unfoldable pub listsFrame : List ℕ → List ℕ → List ℕ → List ℕ → Bool
+listsFrame balances holders lifetime settled =
+    all upToCeiling balances && (all upToCeiling lifetime && (all upToCeiling settled && all isMember holders))
 
 -- the counts and the counters, with how many numbers the history's table has
-unfoldable pub countsFrame : Desk → ℕ → Bool
-countsFrame d size =
+unfoldable pub countsFrame : Counts → ℕ → Bool
+countsFrame c size =
     eqb size 5120
-    && (leb (d .records) historyRows && (leb (d .inflight) (d .payments) && (leb (d .last .0) highestNumber && leb (d .next .0) highestNext)))
+    && (leb (c .records) historyRows && (leb (c .inflight) (c .payments) && (leb (c .last .0) highestNumber && leb (c .next .0) highestNext)))
 
 -- of eight numbers the one for asset or domain i; outside 1 to 8 there is none, so 0
 abbrev pub ofEight : List ℕ → ℕ → ℕ

@@ -1,6 +1,8 @@
 // The frame test, every clause of document 01 but the history's, on any desk and any three tables.
 use crate::fields::is_within;
 use rules::desk::Desk;
+use rules::rows::DepositNumber;
+use rules::rows::Nonce;
 ghost use mathlib.Core.Path.{_≡_};
 ghost use mathlib.Core.Bool.{_&&_};
 ghost use lib.Dec.{leb, ltb, eqb};
@@ -9,38 +11,94 @@ ghost use Rattle.rules.specs.Limits.{within, isMember, isAsset, isAmount, isPay
 ghost use Rattle.rules.specs.Lists.{all};
 ghost use Rattle.rules.specs.Frame.{inFrame};
 ghost use Rattle.rules.specs.Answer.{bookOf};
-ghost use Rattle.desk.specs.Parts.{inboxFrame, outboxFrame, listsFrame, countsFrame};
+ghost use Rattle.desk.specs.Parts.{inboxFrame, outboxFrame, listsFrame, countsFrame, countsOf, deskWith};
 
-// Whether a desk with these three tables is in frame.
-pub fn in_frame(d: Desk, inbox: &[u64], outbox: &[u64], history: &[u64]) -> bool
-    ensures { λ r. ⌜ r ≡ inFrame (bookOf d (now (inbox .entry)) (now (outbox .entry)) (now (history .entry))) ⌝ }
+// The counts and the counters of a desk.
+pub struct Counts {
+    pub last: DepositNumber,
+    pub next: Nonce,
+    pub unclaimed: usize,
+    pub payments: usize,
+    pub inflight: usize,
+    pub records: usize,
+}
+
+pub fn counts_of(d: Desk) -> Counts
+    ensures { λ r. ⌜ r ≡ countsOf d ⌝ }
 {
     let last = d.last;
     let next = d.next;
-    counts_in_frame(d, history.len())
-        & (lists_in_frame(d)
-            & (inbox_in_frame(inbox, d.unclaimed, last.0)
-                & outbox_in_frame(outbox, d.payments, next.0)))
+    Counts {
+        last,
+        next,
+        unclaimed: d.unclaimed,
+        payments: d.payments,
+        inflight: d.inflight,
+        records: d.records,
+    }
+}
+
+// Whether a desk with these three tables is in frame. Its lists are lent one by one: handed on by value, the
+// desk would be copied for each test.
+pub fn in_frame<'a>(
+    balances: &'a [u64; 128],
+    holders: &'a [u64; 8],
+    lifetime: &'a [u64; 8],
+    settled: &'a [u64; 8],
+    counts: Counts,
+    inbox: &[u64],
+    outbox: &[u64],
+    history: &[u64],
+) -> bool
+    ensures { λ r. ⌜ r ≡ inFrame (bookOf (deskWith (now (balances .entry)) (now (holders .entry)) (now (lifetime .entry)) (now (settled .entry)) counts) (now (inbox .entry)) (now (outbox .entry)) (now (history .entry))) ⌝ }
+{
+    let last = counts.last;
+    let next = counts.next;
+    counts_in_frame(counts, history.len())
+        & (lists_in_frame(balances, holders, lifetime, settled)
+            & (inbox_in_frame(inbox, counts.unclaimed, last.0)
+                & outbox_in_frame(outbox, counts.payments, next.0)))
 }
 
 // The counts and the counters of the desk, and the size of the history's table.
-fn counts_in_frame(d: Desk, size: usize) -> bool
-    ensures { λ r. ⌜ r ≡ countsFrame d size ⌝ }
+fn counts_in_frame(c: Counts, size: usize) -> bool
+    ensures { λ r. ⌜ r ≡ countsFrame c size ⌝ }
 {
-    let last = d.last;
-    let next = d.next;
+    let last = c.last;
+    let next = c.next;
     (size == 5120)
-        & ((d.records <= 1024)
-            & ((d.inflight <= d.payments) & ((last.0 <= 4294967295) & (next.0 <= 1024))))
+        & ((c.records <= 1024)
+            & ((c.inflight <= c.payments) & ((last.0 <= 4294967295) & (next.0 <= 1024))))
 }
 
 // The balances, the totals and the holders of the desk.
-fn lists_in_frame(d: Desk) -> bool
-    ensures { λ r. ⌜ r ≡ listsFrame d ⌝ }
+fn lists_in_frame(
+    balances: &[u64; 128],
+    holders: &[u64; 8],
+    lifetime: &[u64; 8],
+    settled: &[u64; 8],
+) -> bool
+    ensures { λ r. ⌜ r ≡ listsFrame (now (balances .entry)) (now (holders .entry)) (now (lifetime .entry)) (now (settled .entry)) ⌝ }
 {
-    all_within(&d.balances, 0, 1000000000000000)
-        & (all_within(&d.lifetime, 0, 1000000000000000)
-            & (all_within(&d.settled, 0, 1000000000000000) & all_within(&d.holders, 1, 16)))
+    balances_in_frame(balances)
+        & (all_within(lifetime, 0, 1000000000000000)
+            & (all_within(settled, 0, 1000000000000000) & all_within(holders, 1, 16)))
+}
+
+// The balances member by member, a member's eight together: eight tests in a row need no count.
+fn balances_in_frame(b: &[u64; 128]) -> bool
+    ensures { λ r. ⌜ r ≡ all (within 0 1000000000000000) (now (b .entry)) ⌝ }
+{
+    let cells = &b[..];
+    let mut m: usize = 0;
+    while m < 16 {
+        let at = m * 8;
+        if !all_within(&cells[at..at + 8], 0, 1000000000000000) {
+            return false;
+        }
+        m += 1;
+    }
+    true
 }
 
 // Whether every number of the slice is from lo to hi.

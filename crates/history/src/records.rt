@@ -1,5 +1,6 @@
 // The records of a book: one of them, and the whole test that provenance and trace begin with.
 use crate::frame::history_in_frame;
+use desk::frame::counts_of;
 use desk::frame::in_frame;
 use rules::desk::Desk;
 use rules::rows::Record;
@@ -33,5 +34,16 @@ pub fn record_at(history: &[u64], i: usize) -> Record
 pub fn book_in_frame(d: Desk, inbox: &[u64], outbox: &[u64], history: &[u64]) -> bool
     ensures { λ r. ⌜ r ≡ inFrame (bookOf d (now (inbox .entry)) (now (outbox .entry)) (now (history .entry))) && historyInFrame (historyOf (bookOf d (now (inbox .entry)) (now (outbox .entry)) (now (history .entry)))) ⌝ }
 {
-    in_frame(d, inbox, outbox, history) & history_in_frame(history, d.records)
+    let counts = counts_of(d);
+    let framed = in_frame(
+        &d.balances,
+        &d.holders,
+        &d.lifetime,
+        &d.settled,
+        counts,
+        inbox,
+        outbox,
+        history,
+    );
+    framed & history_in_frame(history, d.records)
 }

@@ -7,6 +7,7 @@ use desk::fields::is_amount;
 use desk::fields::is_asset;
 use desk::fields::is_member;
 use desk::fields::of_eight;
+use desk::frame::counts_of;
 use desk::frame::in_frame;
 use desk::keep::with_balance;
 use desk::keep::with_lifetime;
@@ -65,7 +66,18 @@ fn deposit_reply(d: Desk, inbox: &[u64], outbox: &[u64], history: &[u64], x: Dep
     let r = refuse(!is_amount(x.amount), Refusal::BadAmount, r);
     let r = refuse(!is_asset(x.asset), Refusal::BadAsset, r);
     let r = refuse(!is_member(x.member), Refusal::BadMember, r);
-    refuse(!in_frame(d, inbox, outbox, history), Refusal::BadBook, r)
+    let counts = counts_of(d);
+    let framed = in_frame(
+        &d.balances,
+        &d.holders,
+        &d.lifetime,
+        &d.settled,
+        counts,
+        inbox,
+        outbox,
+        history,
+    );
+    refuse(!framed, Refusal::BadBook, r)
 }
 
 // Whether a deposit number lies above last + 1 or above 4,294,967,295, on any two numbers.
@@ -145,7 +157,18 @@ fn claim_reply(
     let r = refuse(!is_amount(c.amount), Refusal::BadAmount, r);
     let r = refuse(!is_asset(c.asset), Refusal::BadAsset, r);
     let r = refuse(!is_member(c.member), Refusal::BadMember, r);
-    refuse(!in_frame(d, inbox, outbox, history), Refusal::BadBook, r)
+    let counts = counts_of(d);
+    let framed = in_frame(
+        &d.balances,
+        &d.holders,
+        &d.lifetime,
+        &d.settled,
+        counts,
+        inbox,
+        outbox,
+        history,
+    );
+    refuse(!framed, Refusal::BadBook, r)
 }
 
 // The balance grows, one deposit fewer is unclaimed, and there is one record more.

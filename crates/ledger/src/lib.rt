@@ -8,6 +8,7 @@ use desk::fields::is_asset;
 use desk::fields::is_domain;
 use desk::fields::is_member;
 use desk::fields::of_eight;
+use desk::frame::counts_of;
 use desk::frame::in_frame;
 use desk::keep::with_balance;
 use desk::keep::with_holder;
@@ -73,7 +74,18 @@ fn transfer_reply(
     let r = refuse(!is_amount(t.amount), Refusal::BadAmount, r);
     let r = refuse(!is_asset(t.asset), Refusal::BadAsset, r);
     let r = refuse(!is_member(t.from) | !is_member(t.to), Refusal::BadMember, r);
-    refuse(!in_frame(d, inbox, outbox, history), Refusal::BadBook, r)
+    let counts = counts_of(d);
+    let framed = in_frame(
+        &d.balances,
+        &d.holders,
+        &d.lifetime,
+        &d.settled,
+        counts,
+        inbox,
+        outbox,
+        history,
+    );
+    refuse(!framed, Refusal::BadBook, r)
 }
 
 // The sender's balance falls, the receiver's grows, and there is one record more.
@@ -123,7 +135,18 @@ fn grant_reply(d: Desk, inbox: &[u64], outbox: &[u64], history: &[u64], g: Grant
     let r = refuse(g.from == g.to, Refusal::SameMember, r);
     let r = refuse(!is_domain(g.domain), Refusal::BadDomain, r);
     let r = refuse(!is_member(g.from) | !is_member(g.to), Refusal::BadMember, r);
-    refuse(!in_frame(d, inbox, outbox, history), Refusal::BadBook, r)
+    let counts = counts_of(d);
+    let framed = in_frame(
+        &d.balances,
+        &d.holders,
+        &d.lifetime,
+        &d.settled,
+        counts,
+        inbox,
+        outbox,
+        history,
+    );
+    refuse(!framed, Refusal::BadBook, r)
 }
 
 // The domain has another holder, and there is one record more.
@@ -147,6 +170,17 @@ pub fn sign(d: Desk, inbox: &[u64], outbox: &[u64], history: &[u64], s: SignFiel
     );
     let r = refuse(!is_domain(s.domain), Refusal::BadDomain, r);
     let r = refuse(!is_member(s.member), Refusal::BadMember, r);
-    let r = refuse(!in_frame(d, inbox, outbox, history), Refusal::BadBook, r);
+    let counts = counts_of(d);
+    let framed = in_frame(
+        &d.balances,
+        &d.holders,
+        &d.lifetime,
+        &d.settled,
+        counts,
+        inbox,
+        outbox,
+        history,
+    );
+    let r = refuse(!framed, Refusal::BadBook, r);
     Answered { answer: r, desk: d }
 }

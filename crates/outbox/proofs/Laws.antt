@@ -31,7 +31,7 @@ use Rattle.rules.proofs.Tests.{both, both-of, within-true, true-within, all-at}
 use Rattle.rules.proofs.Accepts.{fit, accepted-frame}
 use Rattle.tables.specs.Rows.{putAt, takenOut}
 use Rattle.desk.specs.Kept.{balanceKept, settledKept}
-use Rattle.desk.specs.Parts.{ofEight, countsFrame, listsFrame, inboxFrame, outboxFrame}
+use Rattle.desk.specs.Parts.{ofEight, countsFrame, countsOf, listsFrame, inboxFrame, outboxFrame}
 use Rattle.desk.proofs.Frames.{frame-parts}
 use Rattle.desk.proofs.Chains.{Entry, chain, notBelow, chain-told}
 use Rattle.desk.proofs.Books.{Framed, framed, inbox-kept, outbox-kept, record-added, history-kept, payments-are, inbox-count, outbox-count, flight-count, history-count}
@@ -179,8 +179,8 @@ limits b h =
     let low : Bool = all paymentInLimits (outboxOf b) in
     let outbox : Bool = outboxFrame (b .outbox) (b .desk .payments) (b .desk .next .0) in
     let inbox : Bool = inboxFrame (b .inbox) (b .desk .unclaimed) (b .desk .last .0) in
-    let (x, r) = both (countsFrame (b .desk) (length (b .history))) (listsFrame (b .desk) && (inbox && outbox)) (sym (frame-parts b) ∙ h) in
-    let (y, s) = both (listsFrame (b .desk)) (inbox && outbox) r in
+    let (x, r) = both (countsFrame (countsOf (b .desk)) (length (b .history))) (listsFrame (b .desk .balances) (b .desk .holders) (b .desk .lifetime) (b .desk .settled) && (inbox && outbox)) (sym (frame-parts b) ∙ h) in
+    let (y, s) = both (listsFrame (b .desk .balances) (b .desk .holders) (b .desk .lifetime) (b .desk .settled)) (inbox && outbox) r in
     let (z, o) = both inbox outbox s in
     let (u, p) = both (hasRows paymentShape outboxRows (b .outbox)) (leb (b .desk .payments) outboxRows && (low && rise)) o in
     let (v, q) = both (leb (b .desk .payments) outboxRows) (low && rise) p in

@@ -8,6 +8,7 @@ use desk::fields::is_asset;
 use desk::fields::is_member;
 use desk::fields::is_payee;
 use desk::fields::of_eight;
+use desk::frame::counts_of;
 use desk::frame::in_frame;
 use desk::keep::with_balance;
 use desk::keep::with_settled;
@@ -81,7 +82,18 @@ fn withdraw_reply(
     let r = refuse(!is_amount(w.amount), Refusal::BadAmount, r);
     let r = refuse(!is_asset(w.asset), Refusal::BadAsset, r);
     let r = refuse(!is_member(w.member), Refusal::BadMember, r);
-    refuse(!in_frame(d, inbox, outbox, history), Refusal::BadBook, r)
+    let counts = counts_of(d);
+    let framed = in_frame(
+        &d.balances,
+        &d.holders,
+        &d.lifetime,
+        &d.settled,
+        counts,
+        inbox,
+        outbox,
+        history,
+    );
+    refuse(!framed, Refusal::BadBook, r)
 }
 
 // The balance falls, "the next nonce rises by 1", and there is one payment and one record more.
@@ -133,7 +145,18 @@ fn send_reply(d: Desk, inbox: &[u64], outbox: &[u64], history: &[u64]) -> Answer
         Refusal::NothingWaiting,
         Answer::Done,
     );
-    refuse(!in_frame(d, inbox, outbox, history), Refusal::BadBook, r)
+    let counts = counts_of(d);
+    let framed = in_frame(
+        &d.balances,
+        &d.holders,
+        &d.lifetime,
+        &d.settled,
+        counts,
+        inbox,
+        outbox,
+        history,
+    );
+    refuse(!framed, Refusal::BadBook, r)
 }
 
 // Settle (nonce): the oldest payment in flight "leaves the outbox and the asset's settled total
@@ -168,7 +191,18 @@ fn settle_reply(d: Desk, inbox: &[u64], outbox: &[u64], history: &[u64], n: Nonc
         Refusal::NotNext,
         Answer::Done,
     );
-    refuse(!in_frame(d, inbox, outbox, history), Refusal::BadBook, r)
+    let counts = counts_of(d);
+    let framed = in_frame(
+        &d.balances,
+        &d.holders,
+        &d.lifetime,
+        &d.settled,
+        counts,
+        inbox,
+        outbox,
+        history,
+    );
+    refuse(!framed, Refusal::BadBook, r)
 }
 
 // The settled total of the payment's asset grows by its amount, and there is one payment less, which

@@ -9,6 +9,7 @@ use Rattle.desk.proofs.answers.refuse.Reads as refuse-reads
 use Rattle.desk.proofs.fields.is_amount.Reads as is-amount-reads
 use Rattle.desk.proofs.fields.is_asset.Reads as is-asset-reads
 use Rattle.desk.proofs.fields.is_member.Reads as is-member-reads
+use Rattle.desk.proofs.frame.counts_of.Reads as counts-of-reads
 use Rattle.desk.proofs.frame.in_frame.Reads as in-frame-reads
 
 -- src/lib.rt:132:9
@@ -43,6 +44,10 @@ is-member-requires c κs = search needs
 refuse-requires-5 : tie.Need-refuse-requires-5
 refuse-requires-5 c κs = search needs
 
+-- src/lib.rt
+counts-of-requires : tie.Need-counts-of-requires
+counts-of-requires c κs = search needs
+
 -- src/lib.rt:137:13
 in-frame-requires : tie.Need-in-frame-requires
 in-frame-requires c κs = search needs
@@ -54,9 +59,9 @@ refuse-requires-6 c κs = search needs
 -- src/lib.rt:128:1
 returns : tie.Need-returns
 returns c =
-    let a = c .before .before .before .before .before .before .before .before .before .before .before .before .before .before .before .args in
-    rw (c .refuse6 .ensures, c .before .in-frame .ensures, c .before .before .refuse5 .ensures, c .before .before .before .is-member .ensures, c .before .before .before .before .refuse4 .ensures, c .before .before .before .before .before .is-asset .ensures, c .before .before .before .before .before .before .refuse3 .ensures, c .before .before .before .before .before .before .before .is-amount .ensures, c .before .before .before .before .before .before .before .before .refuse2 .ensures, c .before .before .before .before .before .before .before .before .before .before .refuse .ensures, c .before .before .before .before .before .before .before .before .before .before .before .before .before .before .before .pre)
-    (claim-told (bookOf (a .d) (a .inbox .now) (a .outbox .now) (a .history .now)) (a .c))
+    let a = c .before .before .before .before .before .before .before .before .before .before .before .before .before .before .before .before .before .before .before .args in
+    rw (c .refuse6 .ensures, c .before .in-frame .ensures, c .before .before .before .before .before .before .before .counts-of .ensures, c .before .before .before .before .before .before .before .before .refuse5 .ensures, c .before .before .before .before .before .before .before .before .before .is-member .ensures, c .before .before .before .before .before .before .before .before .before .before .refuse4 .ensures, c .before .before .before .before .before .before .before .before .before .before .before .is-asset .ensures, c .before .before .before .before .before .before .before .before .before .before .before .before .refuse3 .ensures, c .before .before .before .before .before .before .before .before .before .before .before .before .before .is-amount .ensures, c .before .before .before .before .before .before .before .before .before .before .before .before .before .before .refuse2 .ensures, c .before .before .before .before .before .before .before .before .before .before .before .before .before .before .before .refuse .ensures, c .before .before .before .before .before .before .before .before .before .before .before .before .before .before .before .before .before .before .before .pre)
+    (claim-told (bookOf (a .t1) (a .inbox .now) (a .outbox .now) (a .history .now)) (a .c))
 
 pub claim-reply-spec : {M : Type 1} → statement M
 claim-reply-spec =
@@ -70,6 +75,7 @@ claim-reply-spec =
     refuse-requires-4
     is-member-requires
     refuse-requires-5
+    counts-of-requires
     in-frame-requires
     refuse-requires-6
     returns)

@@ -10,6 +10,7 @@ use Rattle.desk.proofs.fields.is_amount.Reads as is-amount-reads
 use Rattle.desk.proofs.fields.is_asset.Reads as is-asset-reads
 use Rattle.desk.proofs.fields.is_member.Reads as is-member-reads
 use Rattle.desk.proofs.fields.of_eight.Reads as of-eight-reads
+use Rattle.desk.proofs.frame.counts_of.Reads as counts-of-reads
 use Rattle.desk.proofs.frame.in_frame.Reads as in-frame-reads
 use Rattle.inbox.proofs.is_gap.Reads as is-gap-reads
 use Rattle.inbox.proofs.passes_ceiling.Reads as passes-ceiling-reads
@@ -66,6 +67,10 @@ is-member-requires c κs = search needs
 refuse-requires-7 : tie.Need-refuse-requires-7
 refuse-requires-7 c κs = search needs
 
+-- src/lib.rt
+counts-of-requires : tie.Need-counts-of-requires
+counts-of-requires c κs = search needs
+
 -- src/lib.rt:64:13
 in-frame-requires : tie.Need-in-frame-requires
 in-frame-requires c κs = search needs
@@ -77,8 +82,8 @@ refuse-requires-8 c κs = search needs
 -- src/lib.rt:52:1
 returns : tie.Need-returns
 returns c =
-    let a = c .before .before .before .before .before .before .before .before .before .before .before .before .before .before .before .before .before .before .before .before .before .before .before .before .args in
-    rw (c .refuse8 .ensures, c .before .in-frame .ensures, c .before .before .refuse7 .ensures, c .before .before .before .is-member .ensures, c .before .before .before .before .refuse6 .ensures, c .before .before .before .before .before .is-asset .ensures, c .before .before .before .before .before .before .refuse5 .ensures, c .before .before .before .before .before .before .before .is-amount .ensures, c .before .before .before .before .before .before .before .before .refuse4 .ensures, c .before .before .before .before .before .before .before .before .before .before .before .refuse3 .ensures, c .before .before .before .before .before .before .before .before .before .before .before .before .is-gap .ensures, c .before .before .before .before .before .before .before .before .before .before .before .before .before .refuse2 .ensures, c .before .before .before .before .before .before .before .before .before .before .before .before .before .before .passes-ceiling .ensures, c .before .before .before .before .before .before .before .before .before .before .before .before .before .before .before .of-eight .ensures, c .before .before .before .before .before .before .before .before .before .before .before .before .before .before .before .before .before .before .refuse .ensures)
+    let a = c .before .before .before .before .before .before .before .before .before .before .before .before .before .before .before .before .before .before .before .before .before .before .before .before .before .before .before .before .before .before .args in
+    rw (c .refuse8 .ensures, c .before .in-frame .ensures, c .before .before .before .before .before .before .before .counts-of .ensures, c .before .before .before .before .before .before .before .before .refuse7 .ensures, c .before .before .before .before .before .before .before .before .before .is-member .ensures, c .before .before .before .before .before .before .before .before .before .before .refuse6 .ensures, c .before .before .before .before .before .before .before .before .before .before .before .is-asset .ensures, c .before .before .before .before .before .before .before .before .before .before .before .before .refuse5 .ensures, c .before .before .before .before .before .before .before .before .before .before .before .before .before .is-amount .ensures, c .before .before .before .before .before .before .before .before .before .before .before .before .before .before .refuse4 .ensures, c .before .before .before .before .before .before .before .before .before .before .before .before .before .before .before .before .before .refuse3 .ensures, c .before .before .before .before .before .before .before .before .before .before .before .before .before .before .before .before .before .before .is-gap .ensures, c .before .before .before .before .before .before .before .before .before .before .before .before .before .before .before .before .before .before .before .refuse2 .ensures, c .before .before .before .before .before .before .before .before .before .before .before .before .before .before .before .before .before .before .before .before .passes-ceiling .ensures, c .before .before .before .before .before .before .before .before .before .before .before .before .before .before .before .before .before .before .before .before .before .of-eight .ensures, c .before .before .before .before .before .before .before .before .before .before .before .before .before .before .before .before .before .before .before .before .before .before .before .before .refuse .ensures)
     (deposit-told (bookOf (a .t1) (a .inbox .now) (a .outbox .now) (a .history .now)) (a .x))
 
 pub deposit-reply-spec : {M : Type 1} → statement M
@@ -98,6 +103,7 @@ deposit-reply-spec =
     refuse-requires-6
     is-member-requires
     refuse-requires-7
+    counts-of-requires
     in-frame-requires
     refuse-requires-8
     returns)

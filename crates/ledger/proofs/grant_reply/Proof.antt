@@ -9,6 +9,7 @@ use Rattle.desk.proofs.answers.refuse.Reads as refuse-reads
 use Rattle.desk.proofs.fields.is_domain.Reads as is-domain-reads
 use Rattle.desk.proofs.fields.is_member.Reads as is-member-reads
 use Rattle.desk.proofs.fields.of_eight.Reads as of-eight-reads
+use Rattle.desk.proofs.frame.counts_of.Reads as counts-of-reads
 use Rattle.desk.proofs.frame.in_frame.Reads as in-frame-reads
 
 -- src/lib.rt:117:9
@@ -47,6 +48,10 @@ is-member-requires-2 c κs = search needs
 refuse-requires-5 : tie.Need-refuse-requires-5
 refuse-requires-5 c κs = search needs
 
+-- src/lib.rt
+counts-of-requires : tie.Need-counts-of-requires
+counts-of-requires c κs = search needs
+
 -- src/lib.rt:122:13
 in-frame-requires : tie.Need-in-frame-requires
 in-frame-requires c κs = search needs
@@ -58,8 +63,8 @@ refuse-requires-6 c κs = search needs
 -- src/lib.rt:114:1
 returns : tie.Need-returns
 returns c =
-    let a = c .before .before .before .before .before .before .before .before .before .before .before .before .before .before .before .before .before .before .args in
-    rw (c .refuse6 .ensures, c .before .in-frame .ensures, c .before .before .refuse5 .ensures, c .before .before .before .is-member2 .ensures, c .before .before .before .before .is-member .ensures, c .before .before .before .before .before .refuse4 .ensures, c .before .before .before .before .before .before .is-domain .ensures, c .before .before .before .before .before .before .before .refuse3 .ensures, c .before .before .before .before .before .before .before .before .before .refuse2 .ensures, c .before .before .before .before .before .before .before .before .before .before .before .of-eight .ensures, c .before .before .before .before .before .before .before .before .before .before .before .before .before .before .refuse .ensures)
+    let a = c .before .before .before .before .before .before .before .before .before .before .before .before .before .before .before .before .before .before .before .before .before .before .before .before .args in
+    rw (c .refuse6 .ensures, c .before .in-frame .ensures, c .before .before .before .before .before .before .before .counts-of .ensures, c .before .before .before .before .before .before .before .before .refuse5 .ensures, c .before .before .before .before .before .before .before .before .before .is-member2 .ensures, c .before .before .before .before .before .before .before .before .before .before .is-member .ensures, c .before .before .before .before .before .before .before .before .before .before .before .refuse4 .ensures, c .before .before .before .before .before .before .before .before .before .before .before .before .is-domain .ensures, c .before .before .before .before .before .before .before .before .before .before .before .before .before .refuse3 .ensures, c .before .before .before .before .before .before .before .before .before .before .before .before .before .before .before .refuse2 .ensures, c .before .before .before .before .before .before .before .before .before .before .before .before .before .before .before .before .before .of-eight .ensures, c .before .before .before .before .before .before .before .before .before .before .before .before .before .before .before .before .before .before .before .before .refuse .ensures)
     (grant-told (bookOf (a .t1) (a .inbox .now) (a .outbox .now) (a .history .now)) (a .g))
 
 pub grant-reply-spec : {M : Type 1} → statement M
@@ -75,6 +80,7 @@ grant-reply-spec =
     is-member-requires
     is-member-requires-2
     refuse-requires-5
+    counts-of-requires
     in-frame-requires
     refuse-requires-6
     returns)

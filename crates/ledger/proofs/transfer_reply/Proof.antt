@@ -10,6 +10,7 @@ use Rattle.desk.proofs.fields.balance_of.Reads as balance-of-reads
 use Rattle.desk.proofs.fields.is_amount.Reads as is-amount-reads
 use Rattle.desk.proofs.fields.is_asset.Reads as is-asset-reads
 use Rattle.desk.proofs.fields.is_member.Reads as is-member-reads
+use Rattle.desk.proofs.frame.counts_of.Reads as counts-of-reads
 use Rattle.desk.proofs.frame.in_frame.Reads as in-frame-reads
 
 -- src/lib.rt:48:9
@@ -56,6 +57,10 @@ is-member-requires-2 c κs = search needs
 refuse-requires-6 : tie.Need-refuse-requires-6
 refuse-requires-6 c κs = search needs
 
+-- src/lib.rt
+counts-of-requires : tie.Need-counts-of-requires
+counts-of-requires c κs = search needs
+
 -- src/lib.rt:54:13
 in-frame-requires : tie.Need-in-frame-requires
 in-frame-requires c κs = search needs
@@ -67,8 +72,8 @@ refuse-requires-7 c κs = search needs
 -- src/lib.rt:45:1
 returns : tie.Need-returns
 returns c =
-    let a = c .before .before .before .before .before .before .before .before .before .before .before .before .before .before .before .before .before .before .before .before .args in
-    rw (c .refuse7 .ensures, c .before .in-frame .ensures, c .before .before .refuse6 .ensures, c .before .before .before .is-member2 .ensures, c .before .before .before .before .is-member .ensures, c .before .before .before .before .before .refuse5 .ensures, c .before .before .before .before .before .before .is-asset .ensures, c .before .before .before .before .before .before .before .refuse4 .ensures, c .before .before .before .before .before .before .before .before .is-amount .ensures, c .before .before .before .before .before .before .before .before .before .refuse3 .ensures, c .before .before .before .before .before .before .before .before .before .before .before .refuse2 .ensures, c .before .before .before .before .before .before .before .before .before .before .before .before .before .balance-of .ensures, c .before .before .before .before .before .before .before .before .before .before .before .before .before .before .before .before .refuse .ensures)
+    let a = c .before .before .before .before .before .before .before .before .before .before .before .before .before .before .before .before .before .before .before .before .before .before .before .before .before .before .args in
+    rw (c .refuse7 .ensures, c .before .in-frame .ensures, c .before .before .before .before .before .before .before .counts-of .ensures, c .before .before .before .before .before .before .before .before .refuse6 .ensures, c .before .before .before .before .before .before .before .before .before .is-member2 .ensures, c .before .before .before .before .before .before .before .before .before .before .is-member .ensures, c .before .before .before .before .before .before .before .before .before .before .before .refuse5 .ensures, c .before .before .before .before .before .before .before .before .before .before .before .before .is-asset .ensures, c .before .before .before .before .before .before .before .before .before .before .before .before .before .refuse4 .ensures, c .before .before .before .before .before .before .before .before .before .before .before .before .before .before .is-amount .ensures, c .before .before .before .before .before .before .before .before .before .before .before .before .before .before .before .refuse3 .ensures, c .before .before .before .before .before .before .before .before .before .before .before .before .before .before .before .before .before .refuse2 .ensures, c .before .before .before .before .before .before .before .before .before .before .before .before .before .before .before .before .before .before .before .balance-of .ensures, c .before .before .before .before .before .before .before .before .before .before .before .before .before .before .before .before .before .before .before .before .before .before .refuse .ensures)
     (transfer-told (bookOf (a .t1) (a .inbox .now) (a .outbox .now) (a .history .now)) (a .t))
 
 pub transfer-reply-spec : {M : Type 1} → statement M
@@ -86,6 +91,7 @@ transfer-reply-spec =
     is-member-requires
     is-member-requires-2
     refuse-requires-6
+    counts-of-requires
     in-frame-requires
     refuse-requires-7
     returns)

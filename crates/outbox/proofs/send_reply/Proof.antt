@@ -7,6 +7,9 @@ use Rattle.outbox.proofs.send_reply.Tie as tie
 refuse-requires : tie.Need-refuse-requires
 refuse-requires c κs = search needs
 
+counts-of-requires : tie.Need-counts-of-requires
+counts-of-requires c κs = search needs
+
 in-frame-requires : tie.Need-in-frame-requires
 in-frame-requires c κs = search needs
 
@@ -15,8 +18,8 @@ refuse-requires-2 c κs = search needs
 
 returns : tie.Need-returns
 returns c =
-    let a = c .before .before .before .before .before .before .before .args in
-    rw (c .refuse2 .ensures, c .before .in-frame .ensures, c .before .before .refuse .ensures) (send-told (bookOf (a .d) (a .inbox .now) (a .outbox .now) (a .history .now)))
+    let a = c .before .before .before .before .before .before .before .before .before .before .before .before .args in
+    rw (c .refuse2 .ensures, c .before .in-frame .ensures, c .before .before .before .before .before .before .before .counts-of .ensures, c .before .before .before .before .before .before .before .before .refuse .ensures) (send-told (bookOf (a .t1) (a .inbox .now) (a .outbox .now) (a .history .now)))
 
 pub send-reply-spec : {M : Type 1} → statement M
-send-reply-spec = tie.close (tie.spec refuse-requires in-frame-requires refuse-requires-2 returns)
+send-reply-spec = tie.close (tie.spec refuse-requires counts-of-requires in-frame-requires refuse-requires-2 returns)
