@@ -1,4 +1,4 @@
--- The end of the input: what is held of a last line is Malformed, and the tally comes last.
+-- A line that is Malformed, and the end of the input: what is held of a last line is Malformed, and the tally comes last.
 use Prim.Native.Nat.{ℕ, zero, suc, _+_, _≤_, _<_}
 use mathlib.Core.Path.{_≡_, refl, sym, ap, _∙_}
 use mathlib.Core.List.{List, [], _∷_, _++_}
@@ -6,19 +6,31 @@ use native.Mathlib.Omega.{arith}
 use lib.ListN.{length, take}
 use borrow.Author.Tests.{lt-ltb, le-ltb}
 use Rattle.rules.specs.declared.calls.Line.{Line}
-use Rattle.rules.specs.declared.answers.Answer.{Answer}
-use Rattle.rules.specs.declared.answers.Refusal.{Refusal}
 use Rattle.rules.specs.declared.answers.Tally.{Tally}
 use Rattle.rules.specs.Replies.{told, numberOf}
-use Rattle.rules.specs.Transcript.{answerLine, tallied, endText}
+use Rattle.rules.specs.Transcript.{answerLine, replyText, tallied, endText}
 use Rattle.replies.specs.Writing.{Page, put, replyLine}
 use Rattle.replies.proofs.PageLaws.{put-then, reply-line}
 use Rattle.runner.specs.declared.running.Running.{Running}
-use Rattle.runner.specs.Machine.{Machine, outcomeFor, unfinished, unfinishedText, ended, closing}
-use Rattle.runner.specs.Running.{machineOf}
+use Rattle.runner.specs.Machine.{Machine, outcomeFor, answered, unfinished, unfinishedText, ended, closing}
+use Rattle.runner.specs.Running.{machineOf, Counted, malformed}
 
-abbrev malformed : Answer
-malformed = Answer.Refused Refusal.Malformed
+-- ---- a line that is Malformed: the book is left as it was
+module _ (run : Running) (i o h : List ℕ) (t : Tally) (c : t ≡ tallied (run .tally) 1) where
+  abbrev pub told-off : Running
+  told-off = record { desk = run .desk; tally = t; line = run .line + 1 }
+
+  pub malformed-answered : machineOf told-off i o h [] ≡ answered (machineOf run i o h []) (outcomeFor (machineOf run i o h []) Line.Malformed)
+  unfolding answerLine told numberOf
+  malformed-answered = rw c
+
+  pub malformed-counted : Counted run → run .line ≤ 100000 → Counted told-off
+  unfolding tallied
+  malformed-counted f g = rw c (record { done = omega arith; other = omega arith; few = omega arith })
+
+pub malformed-text : (run : Running) (i o h : List ℕ) (p : Page) {q : Page} → q ≡ put p (replyLine (run .line) (told malformed)) → q ≡ put p (replyText (run .line) (outcomeFor (machineOf run i o h []) Line.Malformed))
+unfolding answerLine
+malformed-text run i o h p e = rw (reply-line (run .line) (outcomeFor (machineOf run i o h []) Line.Malformed) refl) e
 
 module _ (run : Running) (i o h hold : List ℕ) (p : Page) where
   pub closed-stopped : (n : ℕ) → 100000 < run .line → {q : Page} → q ≡ put p (endText (run .tally)) → q ≡ put p (closing (machineOf run i o h (take n hold)))

@@ -4,6 +4,7 @@ pub mod Feeds
 pub mod Once
 pub mod Pages
 pub mod Parts
+mod Whole
 pub mod Room
 pub mod StepCalls
 pub mod Steps

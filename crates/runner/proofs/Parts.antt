@@ -8,7 +8,7 @@ use native.Mathlib.Numerals.{add-one}
 use native.Mathlib.Omega.{arith}
 use lib.Dec.{leb, eqb}
 use lib.ListN.{length, getD, take, drop, length-append, length-drop}
-use lib.Seq.{take-suc, take-add}
+use lib.Seq.{take-suc, take-add, take-all, take-length, getD-drop}
 use borrow.Author.Tests.{lt-ltb, le-ltb, ne-eqb, leb-true}
 use Rattle.rules.specs.Lists.{all}
 use Rattle.rules.specs.declared.calls.Line.{Line}
@@ -17,20 +17,15 @@ use Rattle.rules.specs.Transcript.{replyText}
 use Rattle.replies.specs.Writing.{Page, page, put}
 use Rattle.replies.proofs.PageLaws.{put-then, put-nothing}
 use Rattle.runner.specs.declared.running.Running.{Running}
-use Rattle.runner.specs.declared.running.Written.{Written}
 use Rattle.runner.specs.declared.feed.Feeding.{Feeding}
-use Rattle.runner.specs.declared.feed.Held.{Held}
 use Rattle.runner.specs.declared.feed.Fed.{Fed}
 use Rattle.runner.specs.Machine.{Machine, held-with, holds, outcomeFor, answered, fed, written, feeds, writes}
 use Rattle.runner.specs.Running.{machineOf, Counted}
-use Rattle.runner.specs.Feeding.{fedMachine, Ready, HeldPart}
+use Rattle.runner.specs.Feeding.{fedMachine, Ready, noFeed, NextFeed}
 use Rattle.runner.specs.Kept.{kept, RunSome}
 use Rattle.runner.proofs.Cuts.{feeds-append, writes-append}
 use Rattle.runner.proofs.Room.{whole}
 use Rattle.runner.proofs.Feeds.{line-fed, line-written, feed-more, write-more, room-more, none-fed, none-written, none-fits}
-
-abbrev pub noFeed : ℕ → Bool
-noFeed b = not (eqb b lineFeed)
 
 -- ---- byte after byte held
 holds-more : (before xs : List ℕ) (b : ℕ) → holds before (xs ++ (b ∷ [])) ≡ held-with (holds before xs) b
@@ -149,30 +144,47 @@ module _ (m : Machine) (chunk out₀ : List ℕ) (at₀ k : ℕ) (f : Feeding) (
       subst (λ (j : ℕ). SoFar m chunk out₀ at₀ j f i o h hold out) all
       (quiet n refl (rw (length-drop k chunk) (omega arith)) f hold refl (stopped-feeds (f .running) i o h held (take n (drop k chunk)) l) (stopped-writes (f .running) i o h held (take n (drop k chunk)) l) (s .ready))
 
-  -- the bytes up to the next line feed are held
-  pub so-held : f .running .line ≤ 100000 → (r : Held) {part : List ℕ} → part ≡ drop k chunk → (hold′ : List ℕ) → length hold′ ≡ length hold → take (r .held) hold′ ≡ holds (take (f .held) hold) (take (r .next) part) → HeldPart r part
-      → SoFar m chunk out₀ at₀ (k + r .next) (record { running = f .running; held = r .held; at = f .at }) i o h hold′ out
-  so-held l r {part} q hold′ z e p =
+  -- a read that ends within a line: all that is left of it is held
+  pub so-held : f .running .line ≤ 100000 → {part : List ℕ} → part ≡ drop k chunk → (n : ℕ) → NextFeed n part → length part ≤ n → (held′ : ℕ) (hold′ : List ℕ) → length hold′ ≡ length hold
+      → take held′ hold′ ≡ holds (take (f .held) hold) part → held′ ≤ 121 → SoFar m chunk out₀ at₀ (length chunk) (record { running = f .running; held = held′; at = f .at }) i o h hold′ out
+  so-held l {part} q n nf past held′ hold′ z e few =
       let held = take (f .held) hold in
-      quiet (r .next) q (p .within) (record { running = f .running; held = r .held; at = f .at }) hold′ refl
-      (part-fed (f .running) i o h held (take (r .next) part) (take (r .held) hold′) l (p .noFeed) e)
-      (part-written (f .running) i o h held (take (r .next) part) l (p .noFeed))
-      (record { counted = s .ready .counted; held = p .few; size = z ∙ s .ready .size })
+      let g : Feeding = record { running = f .running; held = held′; at = f .at } in
+      let rest = rest-length chunk k q in
+      let end : k + length part ≡ length chunk = let w = s .within in omega arith in
+      let free : all noFeed part ≡ true = ap (all noFeed) (sym (take-all n part past)) ∙ nf .none in
+      let whole′ = take-length part in
+      subst (λ (j : ℕ). SoFar m chunk out₀ at₀ j g i o h hold′ out) end
+      (quiet (length part) q (omega arith) g hold′ refl
+      (rw whole′ (part-fed (f .running) i o h held part (take held′ hold′) l free e))
+      (rw whole′ (part-written (f .running) i o h held part l free))
+      (record { counted = s .ready .counted; held = few; size = z ∙ s .ready .size }))
 
-  -- and the line is answered
-  pub so-answered : k < length chunk → getD chunk k 0 ≡ 10 → f .running .line ≤ 100000 → (l : Line) → l ≡ readLine (take (f .held) hold) → leb 45000 (length out - f .at) ≡ true
-      → (w : Written) (i′ o′ h′ out′ : List ℕ) → machineOf (w .running) i′ o′ h′ [] ≡ answered (machineOf (f .running) i o h []) (outcomeFor (machineOf (f .running) i o h []) l)
-      → page out′ (w .at) ≡ put (page out (f .at)) (replyText (f .running .line) (outcomeFor (machineOf (f .running) i o h []) l)) → Counted (w .running)
-      → SoFar m chunk out₀ at₀ (k + 1) (record { running = w .running; held = 0; at = w .at }) i′ o′ h′ hold out′
-  so-answered here b few l rd room w i′ o′ h′ out′ e g c =
+  -- a line that ends in this read: its last part and the line feed are fed, and it is answered
+  pub so-line : f .running .line ≤ 100000 → leb 45000 (length out - f .at) ≡ true → {part : List ℕ} → part ≡ drop k chunk → (n : ℕ) → NextFeed n part → n < length part
+      → (l : Line) → l ≡ readLine (holds (take (f .held) hold) (take n part)) → (run : Running) (at : ℕ) (i′ o′ h′ hold′ out′ : List ℕ) → length hold′ ≡ length hold
+      → machineOf run i′ o′ h′ [] ≡ answered (machineOf (f .running) i o h []) (outcomeFor (machineOf (f .running) i o h []) l)
+      → page out′ at ≡ put (page out (f .at)) (replyText (f .running .line) (outcomeFor (machineOf (f .running) i o h []) l)) → Counted run
+      → SoFar m chunk out₀ at₀ (k + (n + 1)) (record { running = run; held = 0; at = at }) i′ o′ h′ hold′ out′
+  so-line few room {part} q n nf inside l rd run at i′ o′ h′ hold′ out′ z e g c =
       let held = take (f .held) hold in
-      record {
+      let held′ = holds held (take n part) in
+      let rest = rest-length chunk k q in
+      let here : k + n < length chunk = omega arith in
+      let b : getD chunk (k + n) 0 ≡ 10 = sym (getD-drop k chunk n 0) ∙ ap (λ (t : List ℕ). getD t n 0) (sym q) ∙ nf .feed inside in
+      let m′ = part-more m chunk k n q (s .machine) (part-fed (f .running) i o h held (take n part) held′ few (nf .none) refl) in
+      let same : writes m (take (k + n) chunk) ≡ writes m (take k chunk) =
+        writes-both m chunk k n q (s .machine) ∙ rw (part-written (f .running) i o h held (take n part) few (nf .none)) (append-nil (writes m (take k chunk))) in
+      let text : page out (f .at) ≡ put (page out₀ at₀) (writes m (take (k + n) chunk)) = rw same (s .text) in
+      let one : k + n + 1 ≡ k + (n + 1) = omega arith in
+      subst (λ (j : ℕ). SoFar m chunk out₀ at₀ j (record { running = run; held = 0; at = at }) i′ o′ h′ hold′ out′) one
+      (record {
         within = omega arith;
-        machine = feed-more m chunk k here (s .machine) (line-fed (f .running) i o h held (getD chunk k 0) few b l rd (machineOf (w .running) i′ o′ h′ []) e);
-        text = write-more m chunk k here (s .machine) (page out₀ at₀) (s .text) (line-written (f .running) i o h held (getD chunk k 0) few b l rd (page out (f .at)) g);
-        ready = record { counted = c; held = omega arith; size = s .ready .size };
-        fits = room-more m chunk k here (s .machine) out out₀ (f .at) at₀ (s .text) (s .fits) room;
-      }
+        machine = feed-more m chunk (k + n) here m′ (line-fed (f .running) i o h held′ (getD chunk (k + n) 0) few b l rd (machineOf run i′ o′ h′ []) e);
+        text = write-more m chunk (k + n) here m′ (page out₀ at₀) text (line-written (f .running) i o h held′ (getD chunk (k + n) 0) few b l rd (page out (f .at)) g);
+        ready = record { counted = c; held = omega arith; size = z ∙ s .ready .size };
+        fits = room-more m chunk (k + n) here m′ out out₀ (f .at) at₀ text (rw same (s .fits)) room;
+      })
 
 -- the contract, wherever it stops
 pub so-some : (f₀ : Feeding) (i₀ o₀ h₀ hold₀ out₀ chunk : List ℕ) (k : ℕ) (f : Feeding) (i o h hold out : List ℕ) → SoFar (fedMachine f₀ i₀ o₀ h₀ hold₀) chunk out₀ (f₀ .at) k f i o h hold out

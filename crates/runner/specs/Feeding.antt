@@ -1,11 +1,10 @@
 -- The machine of what is kept between bytes, and what lets a byte be fed.
 use Prim.Native.Nat.{ℕ, _-_, _≤_, _<_}
 use mathlib.Core.Path.{_≡_}
-use mathlib.Core.Bool.{true, not}
+use mathlib.Core.Bool.{Bool, true, not}
 use lib.Dec.{eqb}
 use Rattle.rules.specs.Lists.{all}
 use Rattle.rules.specs.Lines.{lineFeed}
-use Rattle.runner.specs.declared.feed.Held.{Held}
 use Rattle.runner.specs.declared.feed.Fed.{Fed}
 use mathlib.Core.List.{List, _++_}
 use lib.ListN.{length, getD, take}
@@ -25,12 +24,15 @@ pub record Ready (f : Feeding) (hold : List ℕ) : Type 0 where
   pub held : f .held ≤ 121
   pub size : length hold ≡ 121
 
--- the bytes that were gone through are a beginning of the read, with no line feed among them, up to the next one or to the end
-pub record HeldPart (r : Held) (chunk : List ℕ) : Type 0 where
-  pub few : r .held ≤ 121
-  pub within : r .next ≤ length chunk
-  pub noFeed : all (λ b. not (eqb b lineFeed)) (take (r .next) chunk) ≡ true
-  pub feed : r .next < length chunk → getD chunk (r .next) 0 ≡ lineFeed
+-- no line feed
+abbrev pub noFeed : ℕ → Bool
+noFeed b = not (eqb b lineFeed)
+
+-- the place of the first line feed of a read, or its end
+pub record NextFeed (n : ℕ) (chunk : List ℕ) : Type 0 where
+  pub within : n ≤ length chunk
+  pub none : all noFeed (take n chunk) ≡ true
+  pub feed : n < length chunk → getD chunk n 0 ≡ lineFeed
 
 -- no byte is fed that is not there; and where there are bytes, and room for the longest reply, some are fed
 pub record Moves (f : Feeding) (out : List ℕ) (r : Fed) (chunk : List ℕ) : Type 0 where

@@ -1,18 +1,19 @@
 // The input byte after byte, however it is cut into reads.
 use crate::running::Running;
 use crate::running::answer_line;
-use crate::tally::one_more;
+use crate::running::answer_malformed;
 use lines::read::read_line;
 use replies::put_end;
-use replies::put_reply_line;
-use rules::answers::Answer;
-use rules::answers::Refusal;
+use rules::calls::Line;
 ghost use Prim.Native.Nat.{_+_, _-_, _≤_};
 ghost use lib.Dec.{leb};
 ghost use mathlib.Core.Path.{_≡_};
 ghost use lib.ListN.{length, take};
+ghost use mathlib.Core.Bool.{not, true};
+ghost use Rattle.rules.specs.Lists.{all};
+ghost use Rattle.rules.specs.Lines.{readLine};
 ghost use Rattle.runner.specs.Machine.{held-with, holds};
-ghost use Rattle.runner.specs.Feeding.{Ready, HeldPart};
+ghost use Rattle.runner.specs.Feeding.{Ready, noFeed, NextFeed};
 ghost use Rattle.runner.specs.Kept.{kept, RunSome, Closed};
 
 // What is kept between bytes: what is kept between lines, how many bytes of a line are held, and the
@@ -44,29 +45,83 @@ pub struct Fed {
     pub next: usize,
 }
 
-// How many bytes of a line are held, and how far a read was gone through for them.
-pub struct Held {
-    pub held: usize,
-    pub next: usize,
-}
-
-// Holds the bytes of a read up to its next line feed, or all of them.
-fn hold_part(hold: &mut [u8], held: usize, chunk: &[u8]) -> Held
+// Holds the bytes of a part of a line, one after the other.
+fn hold_part(hold: &mut [u8], held: usize, part: &[u8]) -> usize
     requires { ⌜ held ≤ 121 ⌝ }
     requires { ⌜ length (now hold) ≡ 121 ⌝ }
-    ensures { λ r. ⌜ take (r .held) (now (hold .exit)) ≡ holds (take held (now (hold .entry))) (take (r .next) (now (chunk .entry))) ⌝ }
-    ensures { λ r. ⌜ HeldPart r (now (chunk .entry)) ⌝ }
+    ensures { λ r. ⌜ take r (now (hold .exit)) ≡ holds (take held (now (hold .entry))) (now (part .entry)) ⌝ }
+    ensures { λ r. ⌜ r ≤ 121 ⌝ }
 {
     let mut n = held;
     let mut k: usize = 0;
-    while k < chunk.len() {
-        if chunk[k] == 10 {
-            return Held { held: n, next: k };
-        }
-        n = hold_byte(hold, n, chunk[k]);
+    while k < part.len() {
+        n = hold_byte(hold, n, part[k]);
         k += 1;
     }
-    Held { held: n, next: k }
+    n
+}
+
+// Where the next line feed stands, or the end of the read.
+fn feed_at(s: &[u8]) -> usize
+    ensures { λ r. ⌜ NextFeed r (now (s .entry)) ⌝ }
+{
+    let from = blocks_without(s);
+    from + first_feed(&s[from..])
+}
+
+// The same, byte by byte.
+fn first_feed(s: &[u8]) -> usize
+    ensures { λ r. ⌜ NextFeed r (now (s .entry)) ⌝ }
+{
+    let mut i: usize = 0;
+    while i < s.len() {
+        if s[i] == 10 {
+            return i;
+        }
+        i += 1;
+    }
+    i
+}
+
+// Of a long line the bytes are tested 32 at a time: up to here there is no line feed.
+fn blocks_without(s: &[u8]) -> usize
+    ensures { λ r. ⌜ r ≤ length (now (s .entry)) ⌝ }
+    ensures { λ r. ⌜ all noFeed (take r (now (s .entry))) ≡ true ⌝ }
+{
+    let mut i: usize = 0;
+    while 32 <= s.len() - i {
+        if has_feed(&s[i..i + 32]) {
+            return i;
+        }
+        i += 32;
+    }
+    i
+}
+
+// Whether a line feed is among the bytes. It looks at all of them: so the compiler can test many at once.
+fn has_feed(s: &[u8]) -> bool
+    ensures { λ r. ⌜ not r ≡ all noFeed (now (s .entry)) ⌝ }
+{
+    let mut found = false;
+    let mut i: usize = 0;
+    while i < s.len() {
+        found = found | (s[i] == 10);
+        i += 1;
+    }
+    found
+}
+
+// Reads the line whose last part this is. Where nothing of it is held it is read where it lies.
+fn whole_line(hold: &mut [u8], held: usize, part: &[u8]) -> Line
+    requires { ⌜ held ≤ 121 ⌝ }
+    requires { ⌜ length (now hold) ≡ 121 ⌝ }
+    ensures { λ r. ⌜ r ≡ readLine (holds (take held (now (hold .entry))) (now (part .entry))) ⌝ }
+{
+    if held == 0 {
+        return read_line(part);
+    }
+    let n = hold_part(hold, held, part);
+    read_line(&hold[..n])
 }
 
 // Feeds a read, line after line, while the output has room for the longest reply: at most six numbers
@@ -86,30 +141,47 @@ pub fn run_some(
     requires { ⌜ f .at ≤ length (now out) ⌝ }
     ensures { λ r. ⌜ RunSome (kept f (now (inbox .entry)) (now (outbox .entry)) (now (history .entry)) (now (hold .entry)) (now (out .entry))) (now (chunk .entry)) (r .next) (kept (r .feeding) (now (inbox .exit)) (now (outbox .exit)) (now (history .exit)) (now (hold .exit)) (now (out .exit))) ⌝ }
 {
-    let mut run = f.running;
+    let run = f.running;
+    let mut desk = run.desk;
+    let mut tally = run.tally;
+    let mut line = run.line;
     let mut held = f.held;
     let mut at = f.at;
     let mut k: usize = 0;
     while k < chunk.len() {
+        let run = Running { desk, tally, line };
         if !has_room(out.len(), at) {
             return so_far(run, held, at, k);
         }
-        if 100000 < run.line {
+        if 100000 < line {
             return so_far(run, held, at, chunk.len());
         }
-        let h = hold_part(hold, held, &chunk[k..]);
-        k += h.next;
-        held = h.held;
-        if chunk.len() <= k {
-            return so_far(run, held, at, k);
+        let rest = &chunk[k..];
+        let n = feed_at(rest);
+        if rest.len() <= n {
+            held = hold_part(hold, held, rest);
+            return so_far(run, held, at, chunk.len());
         }
-        let l = read_line(&hold[..held]);
+        let l = whole_line(hold, held, &rest[..n]);
+        if let Line::Malformed = l {
+            let w = answer_malformed(tally, line, out, at);
+            tally = w.tally;
+            line += 1;
+            at = w.at;
+            held = 0;
+            k += n + 1;
+            continue;
+        }
         let w = answer_line(run, inbox, outbox, history, out, at, l);
-        run = w.running;
+        let next = w.running;
+        desk = next.desk;
+        tally = next.tally;
+        line = next.line;
         at = w.at;
         held = 0;
-        k += 1;
+        k += n + 1;
     }
+    let run = Running { desk, tally, line };
     so_far(run, held, at, k)
 }
 
@@ -146,8 +218,7 @@ pub fn close(f: Feeding, hold: &[u8], out: &mut [u8]) -> usize
     if n == 0 {
         return put_end(out, f.at, t);
     }
-    let why = Refusal::Malformed;
-    let answer = Answer::Refused(why);
-    let p = put_reply_line(out, f.at, run.line, answer);
-    put_end(out, p, one_more(t, 1))
+    let w = answer_malformed(t, run.line, out, f.at);
+    let told = w.tally;
+    put_end(out, w.at, told)
 }

@@ -9,8 +9,7 @@ use Rattle.runner.proofs.feed.close.Tie as tie
 use Rattle.runner.proofs.feed.close.Reads as reads
 use Rattle.runner.proofs.feed.close.Lts as lts
 use Rattle.replies.proofs.put_end.Reads as put-end-reads
-use Rattle.replies.proofs.put_reply_line.Reads as put-reply-line-reads
-use Rattle.runner.proofs.tally.one_more.Reads as one-more-reads
+use Rattle.runner.proofs.running.answer_malformed.Reads as answer-malformed-reads
 
 -- src/feed.rt:147:9
 put-end-requires : tie.Need-put-end-requires
@@ -43,17 +42,12 @@ returns-2 c =
     closed-all (a .f) (a .hold .now) (a .out .now) _ _ (λ i o h. closed-whole (a .f .running) i o h (a .hold .now) (page (a .out .now) (a .f .at)) (a .f .held) (c .before .before .before .before .before .if1 .left) (c .before .before .before .before .if2 .taken) (c .before .before .put-end2 .ensures)) (c .before .before .before .before .before .before .before .before .before .before .before .pre .1)
 
 -- src/feed.rt:154:9
-put-reply-line-requires : tie.Need-put-reply-line-requires
-put-reply-line-requires c κs = search needs
-
--- src/feed.rt:155:21
-one-more-requires : tie.Need-one-more-requires
-one-more-requires c κs =
-    let r = c .before .before .before .before .before .before .before .before .before .before .before .before .pre .0 .counted in
-    let l = c .before .before .before .before .before .before .if1 .left in
+answer-malformed-requires : tie.Need-answer-malformed-requires
+answer-malformed-requires c κs =
+    let r = c .before .before .before .before .before .before .before .before .pre .0 .counted in
+    let l = c .before .before .if1 .left in
     (omega arith, omega arith)
 
--- src/feed.rt:155:5
 put-end-requires-3 : tie.Need-put-end-requires-3
 put-end-requires-3 c κs = search needs
 
@@ -66,7 +60,8 @@ returns-3 : tie.Need-returns-3
 unfolding Closes EndsWith
 returns-3 c =
     let a = c .before .before .before .before .before .before .before .before .before .before .before .before .before .before .before .before .args in
-    closed-all (a .f) (a .hold .now) (a .out .now) _ _ (λ i o h. closed-unfinished (a .f .running) i o h (a .hold .now) (page (a .out .now) (a .f .at)) (a .f .held) (c .before .before .before .before .before .before .before .before .before .before .if1 .left) (c .before .before .before .before .before .before .before .before .before .if2 .left) (c .before .before .before .before .before .before .before .before .before .before .before .before .before .before .before .before .pre .0 .size) (c .before .before .before .one-more .result) (c .before .before .before .before .before .before .before .put-reply-line .ensures) (c .before .before .before .one-more .ensures) (c .before .before .put-end3 .ensures)) (c .before .before .before .before .before .before .before .before .before .before .before .before .before .before .before .before .pre .1)
+    let w = c .before .before .before .before .before .before .before .answer-malformed in
+    closed-all (a .f) (a .hold .now) (a .out .now) _ _ (λ i o h. closed-unfinished (a .f .running) i o h (a .hold .now) (page (a .out .now) (a .f .at)) (a .f .held) (c .before .before .before .before .before .before .before .before .before .before .if1 .left) (c .before .before .before .before .before .before .before .before .before .if2 .left) (c .before .before .before .before .before .before .before .before .before .before .before .before .before .before .before .before .pre .0 .size) (w .result .tally) (w .ensures .1) (w .ensures .0) (c .before .before .put-end3 .ensures)) (c .before .before .before .before .before .before .before .before .before .before .before .before .before .before .before .before .pre .1)
 
 pub close-spec : {M : Type 1} → statement M
 close-spec =
@@ -78,8 +73,7 @@ close-spec =
     put-end-requires-2
     same-length-2
     returns-2
-    put-reply-line-requires
-    one-more-requires
+    answer-malformed-requires
     put-end-requires-3
     same-length-3
     returns-3)
