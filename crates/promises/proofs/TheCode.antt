@@ -5,7 +5,7 @@ use mathlib.Core.List.{List, [], _∷_, _++_}
 use Rattle.promises.specs.Types.{Call}
 use Rattle.rules.specs.State.{Book, emptyBook}
 use Rattle.rules.specs.Answer.{answer}
-use Rattle.runner.specs.Step.{Replied}
+use Rattle.steps.specs.Step.{Replied}
 use Rattle.rules.specs.Runs.{run}
 use Rattle.rules.specs.Views.{seenOutside, OutsideView, outsideView}
 use Rattle.runner.proofs.Cuts.{machine-transcript, however-cut}

@@ -9,8 +9,8 @@ use Rattle.rules.specs.State.{Book, view}
 use Rattle.rules.specs.Transcript.{InputLine, inputLines, readInput, transcript}
 use Rattle.rules.specs.Answer.{answer, bookOf}
 use Rattle.replies.specs.Writing.{Page}
-use Rattle.runner.specs.declared.step.Stepped.{Stepped}
-use Rattle.runner.specs.Step.{repliedOf, replied}
+use Rattle.steps.specs.declared.step.Stepped.{Stepped}
+use Rattle.steps.specs.Step.{repliedOf, replied}
 use Rattle.runner.specs.Machine.{Machine, start, feeds}
 use Rattle.runner.specs.Kept.{Kept, onPage, Begins, RunSome}
 

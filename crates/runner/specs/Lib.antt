@@ -2,4 +2,3 @@ pub mod Feeding
 pub mod Kept
 pub mod Machine
 pub mod Running
-pub mod Step

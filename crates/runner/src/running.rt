@@ -1,6 +1,6 @@
 // One line in, one line out: the book is stepped, the tally raised once, and the reply written.
-use crate::counted::tallied_step;
-use crate::tally::one_more;
+use steps::counted::tallied_step;
+use steps::tally::one_more;
 use replies::put_reply_line;
 use rules::answers::Answer;
 use rules::answers::Refusal;

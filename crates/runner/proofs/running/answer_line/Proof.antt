@@ -1,12 +1,12 @@
 use native.Mathlib.Omega.{arith}
 use Rattle.replies.specs.Writing.{page}
-use Rattle.runner.proofs.Pages.{line-answered, line-text, line-counted}
+use Rattle.runner.proofs.Answering.{line-answered, line-text, line-counted}
 use borrow.Author.Needs.{needs}
 use Rattle.runner.proofs.running.answer_line.Statement.{statement}
 use Rattle.runner.proofs.running.answer_line.Tie as tie
 use Rattle.runner.proofs.running.answer_line.Reads as reads
 use Rattle.runner.proofs.running.answer_line.Lts as lts
-use Rattle.runner.proofs.counted.tallied_step.Reads as tallied-step-reads
+use Rattle.steps.proofs.counted.tallied_step.Reads as tallied-step-reads
 
 -- src/running.rt:45:9
 tallied-step-requires : tie.Need-tallied-step-requires

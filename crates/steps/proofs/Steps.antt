@@ -1,0 +1,90 @@
+-- What a call's own function gives is what the step leaves: only a trace hands out pieces, and a trace leaves the book as it was.
+use Prim.Native.Nat.{ℕ, zero, suc}
+use mathlib.Core.Path.{_≡_, refl, sym, ap, _∙_}
+use mathlib.Core.List.{List, []}
+use native.Mathlib.Nat.{add-zero}
+use native.Mathlib.Omega.{arith}
+use lib.ListN.{length, getD, take}
+use Rattle.rules.specs.declared.rows.Nonce.{Nonce}
+use Rattle.rules.specs.declared.rows.Lot.{Lot}
+use Rattle.rules.specs.declared.calls.Call.{Call}
+use Rattle.rules.specs.declared.answers.Answer.{Answer}
+use Rattle.rules.specs.declared.answers.Answered.{Answered}
+use Rattle.rules.specs.Tables.{edited}
+use Rattle.rules.specs.State.{Book, view, laid, deskOf}
+use Rattle.rules.specs.Replies.{Reply, told, if-done}
+use Rattle.rules.specs.Effects.{effect, balancesAfter, holdersAfter, inboxEdit, outsideAfter, recordsOf}
+use Rattle.rules.specs.Lots.{pieces}
+use Rattle.rules.specs.Answer.{answer, outcomeOf, replyNumber, replyWith, doneAnswer, piecesOf, traceAnswer, TraceOutcome}
+use Rattle.rules.proofs.Facts.{Accepted}
+use Rattle.rules.proofs.Accepts.{accepted-frame}
+use Rattle.desk.proofs.Books.{Framed, framed, inbox-kept, outbox-kept, history-kept, inbox-count, outbox-count, flight-count, history-count}
+use Rattle.history.specs.Tracing.{traceOutcomeOf}
+use Rattle.lots.proofs.TraceJoin.{trace-reply, trace-pieces}
+use Rattle.replies.specs.Writing.{Page, page, put, replyLine}
+use Rattle.rules.specs.Transcript.{replyText}
+use Rattle.replies.proofs.PageLaws.{reply-line, reply-text}
+use Rattle.steps.specs.declared.step.Stepped.{Stepped}
+use Rattle.steps.specs.Step.{Replied, HasTables, handed, answerText, repliedOf, replied}
+
+abbrev valueCount : Reply → ℕ
+valueCount r = length (r .values)
+
+-- ---- a call that hands out no pieces
+pub plain-replied : (a : Answered) (i o h : List ℕ) (r : Stepped) (out : List ℕ) (n : ℕ) (p : Page) → r .number ≡ told (a .answer) .number → r .desk ≡ a .desk → page out (r .at) ≡ put p (replyLine n (told (a .answer)))
+    → repliedOf r i o h out ≡ replied n p (outcomeOf a i o h)
+plain-replied a i o h r out n p e f g = rw (e, f, g, reply-line n (outcomeOf a i o h) refl)
+
+-- ---- a trace
+-- a done trace hands out as many rows as there are pieces
+handed-traced : (a : Answer) (k : ℕ) (ps t : List Lot) → told a ≡ replyWith k (told (Answer.Traced (length ps)))
+    → take (length (if-done k ps [])) t ≡ if-done k ps [] → handed a t ≡ if-done k ps []
+unfolding handed told
+handed-traced Answer.Done zero ps t e f = absurd (let z : _≡_ {A = ℕ} 0 1 = ap valueCount e in omega arith)
+handed-traced Answer.Done (suc k) ps t e f = refl
+handed-traced (Answer.Sent x) zero ps t e f = absurd (let z : _≡_ {A = ℕ} 4 1 = ap valueCount e in omega arith)
+handed-traced (Answer.Sent x) (suc k) ps t e f = refl
+handed-traced (Answer.Traced m) zero ps t e f = let q : m ≡ length ps = ap (λ (r : Reply). getD (r .values) 0 0) e in rw q f
+handed-traced (Answer.Traced m) (suc k) ps t e f = absurd (let z : _≡_ {A = ℕ} 1 0 = ap valueCount e in omega arith)
+handed-traced (Answer.Refused why) zero ps t e f = absurd (let z : _≡_ {A = ℕ} 0 1 = ap valueCount e in omega arith)
+handed-traced (Answer.Refused why) (suc k) ps t e f = refl
+
+-- "Changes nothing.": what a done one lays is what was there
+trace-laid : (b : Book) (n : Nonce) → Framed b → laid (effect (Call.Trace n) (view b)) b ≡ b
+unfolding laid deskOf effect balancesAfter holdersAfter inboxEdit edited outsideAfter recordsOf view
+trace-laid b n f =
+    rw (inbox-kept b f, outbox-kept b f, history-kept b f, inbox-count b f, outbox-count b f, flight-count b f, history-count b f [], add-zero)
+
+trace-book : (b : Book) (n : Nonce) → b ≡ answer b (Call.Trace n) .book
+unfolding answer
+trace-book b n = go (replyNumber b (Call.Trace n)) refl
+  where
+    go : (k : ℕ) → replyNumber b (Call.Trace n) ≡ k → b ≡ if-done k (laid (effect (Call.Trace n) (view b)) b) b
+    go zero e =
+        let y : Accepted b (Call.Trace n) = record { done = e } in
+        sym (trace-laid b n (framed b (accepted-frame b (Call.Trace n) y)))
+    go (suc k) e = refl
+
+abbrev replyFound : TraceOutcome → Reply
+replyFound o = o .reply
+
+abbrev piecesFound : TraceOutcome → List Lot
+piecesFound o = o .pieces
+
+module _ (b : Book) (work out : List Lot) (n : Nonce) (a : Answer) (work′ out′ : List Lot) (has : HasTables work out) (e : traceOutcomeOf a work′ out′ ≡ traceAnswer b work out n) where
+  reply-is : told a ≡ answer b (Call.Trace n) .reply
+  reply-is = ap replyFound e ∙ sym (trace-reply b work out n (has .rows) (has .places))
+
+  rows-are : take (length (answer b (Call.Trace n) .pieces)) out′ ≡ answer b (Call.Trace n) .pieces
+  rows-are = ap (λ (t : List Lot). take (length (answer b (Call.Trace n) .pieces)) t) (ap piecesFound e) ∙ trace-pieces b work out n (has .rows) (has .places)
+
+  pieces-are : handed a out′ ≡ answer b (Call.Trace n) .pieces
+  unfolding answer piecesOf doneAnswer
+  pieces-are = handed-traced a (replyNumber b (Call.Trace n)) (piecesOf (view b) (Call.Trace n)) out′ reply-is rows-are
+
+  pub trace-replied : (k : ℕ) (p q : Page) (m : ℕ) → m ≡ told a .number → q ≡ put p (answerText k a out′)
+      → _≡_ {A = Replied} (record { book = b; number = m; text = q }) (replied k p (answer b (Call.Trace n)))
+  unfolding answerText
+  trace-replied k p q m c f =
+      rw (f, c, reply-is, pieces-are, ← reply-text k (answer b (Call.Trace n)))
+      (ap (λ (x : Book). record { book = x; number = answer b (Call.Trace n) .reply .number; text = put p (replyText k (answer b (Call.Trace n))) }) (trace-book b n))
