@@ -1,43 +1,72 @@
--- The loops over the lots do what the rules say: a pass takes what the rules take and leaves what they leave, and what joins is what was held.
+-- The loops over the lots do what the rules say: a taking takes what the rules take and leaves what they leave, the rows left close up, and what joins is what was held.
 use Prim.Native.Nat.{ℕ, zero, suc, _+_, _-_, _≤_, _<_}
 use mathlib.Core.Path.{_≡_, refl, sym, ap, ap₂, _∙_}
-use mathlib.Core.Bool.{Bool, true, false, not, _||_, cond}
+use mathlib.Core.Bool.{Bool, true, false, not, _&&_, cond}
 use mathlib.Core.List.{List, [], _∷_, _++_, map, append-assoc, append-nil}
-use native.Mathlib.Nat.{add-zero}
+use native.Mathlib.Nat.{add-zero, sub-zero}
 use native.Mathlib.Numerals.{add-one}
 use native.Mathlib.Omega.{arith}
-use lib.Dec.{leb, eqb}
+use lib.Dec.{T as Holds, leb, ltb, eqb}
 use lib.ListN.{length, getD, set, take, drop, length-set, take-append-drop}
-use lib.Seq.{drop-cons, take-set-le, take-suc-set, drop-set-lt, length-take-le}
-use borrow.Author.Tests.{eqb-true}
+use lib.Seq.{drop-cons, take-suc, take-suc-set, take-add, drop-set-lt, length-take-le}
+use borrow.Author.Tests.{eqb-true, ltb-false}
 use Rattle.rules.specs.declared.rows.Lot.{Lot}
 use Rattle.rules.specs.Lots.{noLot, inLine, ofAmount, ofMember, taken, left}
 use Rattle.rules.specs.Answer.{inFront}
 use Rattle.rules.proofs.Tests.{both}
 use Rattle.history.specs.declared.work.Taking.{Taking}
 use Rattle.history.specs.declared.work.Cut.{Cut}
-use Rattle.history.specs.Working.{takingOf, cutInto, cutOf, Pass, passOf, passStep, pass, joinedOn}
+use Rattle.history.specs.Working.{takingOf, cutNone, cutWhole, cutInTwo, cutOf, CanTake, TakesFrom, CanClose, Closes, joinedOn}
+
+-- as many rows as can be taken of a table are there
+pub in-rows : (n : ℕ) (rows : List Lot) → length (take n rows) ≡ n → n ≤ length rows
+in-rows zero rows e = omega arith
+in-rows (suc n) [] e = omega (arith, e)
+in-rows (suc n) (l ∷ ls) e =
+    let f : length (take n ls) ≡ n = omega (arith, e) in
+    omega (arith, in-rows n ls f)
 
 -- ---- one lot
--- a list of so many lots so far: one lot more, which was written after them, or none
-pub data Grown (n : ℕ) (x : Lot) : ℕ → List Lot → Type 0 where
-  one : Grown n x (n + 1) (x ∷ [])
-  none : Grown n x n []
+-- what was written into the held table, so many pieces being there: this piece after them, or nothing
+data Held (n : ℕ) (x : Lot) : Bool → ℕ → List Lot → Type 0 where
+  one : Held n x true (n + 1) (x ∷ [])
+  none : Held n x false n []
 
-grown : {n k : ℕ} {x : Lot} {xs : List Lot} → Grown n x k xs → (rows : List Lot) → n < length rows → take k (set rows n x) ≡ take n rows ++ xs
-grown {n} {k} {x} Grown.one rows h = rw (add-one n) (take-suc-set rows n x h)
-grown {n} {k} {x} Grown.none rows h = take-set-le n rows n x (omega arith) ∙ sym (append-nil (take n rows))
+held-grows : {n k : ℕ} {x : Lot} {b : Bool} {xs : List Lot} → Held n x b k xs → (rows : List Lot) → n < length rows → take k (cond b (set rows n x) rows) ≡ take n rows ++ xs
+held-grows {n} {k} {x} Held.one rows h = rw (add-one n) (take-suc-set rows n x h)
+held-grows {n} {k} {x} Held.none rows h = sym (append-nil (take n rows))
 
-grown-little : {n k : ℕ} {x : Lot} {xs : List Lot} → Grown n x k xs → k ≤ n + 1
-grown-little Grown.one = omega arith
-grown-little Grown.none = omega arith
+-- what was written into the work table, so many lots standing closed up in front of row i: this lot after them, or nothing, as row i is the next or its lot is gone
+data Kept (n i : ℕ) (l x : Lot) : Bool → ℕ → List Lot → Type 0 where
+  moved : Kept n i l x true (n + 1) (x ∷ [])
+  stayed : n ≡ i → Kept n i l x false (n + 1) (l ∷ [])
+  gone : Kept n i l x false n []
+
+kept-grows : {n i k : ℕ} {l x : Lot} {b : Bool} {xs : List Lot} → Kept n i l x b k xs → (rows : List Lot) → n < length rows → l ≡ getD rows i noLot → take k (cond b (set rows n x) rows) ≡ take n rows ++ xs
+kept-grows {n} {i} {k} {l} {x} Kept.moved rows h e = rw (add-one n) (take-suc-set rows n x h)
+kept-grows {n} {i} {k} {l} {x} (Kept.stayed same) rows h e = rw (add-one n, e, sym same) (take-suc rows n noLot h)
+kept-grows {n} {i} {k} {l} {x} Kept.gone rows h e = sym (append-nil (take n rows))
+
+-- either way the rows after row n, and how many there are, stay as they were
+later-same : (b : Bool) (i n : ℕ) (x : Lot) (rows : List Lot) → n < i → drop i (cond b (set rows n x) rows) ≡ drop i rows
+later-same true i n x rows h = drop-set-lt i rows n x h
+later-same false i n x rows h = refl
+
+held-little : {n k : ℕ} {x : Lot} {b : Bool} {xs : List Lot} → Held n x b k xs → k ≤ n + 1
+held-little Held.one = omega arith
+held-little Held.none = omega arith
+
+kept-few : {n i k : ℕ} {l x : Lot} {b : Bool} {xs : List Lot} → Kept n i l x b k xs → k ≤ n + 1
+kept-few Kept.moved = omega arith
+kept-few (Kept.stayed e) = omega arith
+kept-few Kept.gone = omega arith
 
 -- what is cut off a lot is what the rules take first, and what stays of it what they leave first
-record CutLaw (m a : ℕ) (l : Lot) (s : Taking) (c : Cut) : Type 0 where
+record CutLaw (m a i : ℕ) (l : Lot) (s : Taking) (c : Cut) : Type 0 where
   pieces : List Lot
   rests : List Lot
-  held : Grown (s .taken) (c .piece) (c .next .taken) pieces
-  kept : Grown (s .kept) (c .rest) (c .next .kept) rests
+  held : Held (s .taken) (c .piece) (c .takes) (c .next .taken) pieces
+  kept : Kept (s .kept) i l (c .rest) (c .moves) (c .next .kept) rests
   takes : (ls : List Lot) → taken m a (s .due) (l ∷ ls) ≡ pieces ++ taken m a (c .next .due) ls
   leaves : (ls : List Lot) → left m a (s .due) (l ∷ ls) ≡ rests ++ left m a (c .next .due) ls
 
@@ -52,142 +81,183 @@ unfolding left
 left-none m a [] = refl
 left-none m a (l ∷ ls) = refl
 
-cut-law : (m a : ℕ) (l : Lot) (s : Taking) → CutLaw m a l s (cutOf m a l s)
+cut-law : (m a i : ℕ) (l : Lot) (s : Taking) → eqb (s .due) 0 ≡ false → CutLaw m a i l s (cutOf m a i l s)
 unfolding cutOf
-cut-law m a l s = go (eqb (s .due) 0) (inLine m a l) (leb (l .amount) (s .due)) refl refl refl
+cut-law m a i l s e = go (inLine m a l) (leb (l .amount) (s .due)) refl refl
   where
-    go : (p q r : Bool) → eqb (s .due) 0 ≡ p → inLine m a l ≡ q → leb (l .amount) (s .due) ≡ r
-        → CutLaw m a l s
-        (cond (p || not q) (cutInto l l (takingOf (s .due) (s .kept + 1) (s .taken)))
-        (cond r (cutInto l l (takingOf (s .due - l .amount) (s .kept) (s .taken + 1)))
-        (cutInto (ofAmount (s .due) l) (ofAmount (l .amount - s .due) l) (takingOf 0 (s .kept + 1) (s .taken + 1)))))
-    go true q r e f g =
+    stays : (p : Bool) → eqb (s .kept) i ≡ p → Kept (s .kept) i l l (not p) (s .kept + 1) (l ∷ [])
+    stays true g = Kept.stayed (eqb-true (s .kept) i g)
+    stays false g = Kept.moved
+
+    go : (q r : Bool) → inLine m a l ≡ q → leb (l .amount) (s .due) ≡ r → CutLaw m a i l s (cond (not q) (cutNone i l s) (cond r (cutWhole l s) (cutInTwo l s)))
+    go false r f g =
         record {
           pieces = [];
           rests = l ∷ [];
-          held = Grown.none;
-          kept = Grown.one;
-          takes = λ ls. rw (eqb-true (s .due) 0 e) (taken-none m a (l ∷ ls) ∙ sym (taken-none m a ls));
-          leaves = λ ls. rw (eqb-true (s .due) 0 e) (left-none m a (l ∷ ls) ∙ ap (λ (k : List Lot). l ∷ k) (sym (left-none m a ls)));
-        }
-    go false false r e f g =
-        record {
-          pieces = [];
-          rests = l ∷ [];
-          held = Grown.none;
-          kept = Grown.one;
+          held = Held.none;
+          kept = stays (eqb (s .kept) i) refl;
           takes = λ ls. unfold taken in rw (e, f);
           leaves = λ ls. unfold left in rw (e, f);
         }
-    go false true true e f g =
+    go true true f g =
         record {
           pieces = l ∷ [];
           rests = [];
-          held = Grown.one;
-          kept = Grown.none;
+          held = Held.one;
+          kept = Kept.gone;
           takes = λ ls. unfold taken in rw (e, f, g);
           leaves = λ ls. unfold left in rw (e, f, g);
         }
-    go false true false e f g =
+    go true false f g =
         record {
           pieces = ofAmount (s .due) l ∷ [];
           rests = ofAmount (l .amount - s .due) l ∷ [];
-          held = Grown.one;
-          kept = Grown.one;
+          held = Held.one;
+          kept = Kept.moved;
           takes = λ ls. rw (taken-none m a ls) (unfold taken in rw (e, f, g));
           leaves = λ ls. rw (left-none m a ls) (unfold left in rw (e, f, g));
         }
 
--- neither count grows by more than one
-pub kept-little : (m a : ℕ) (l : Lot) (s : Taking) → cutOf m a l s .next .kept ≤ s .kept + 1
-kept-little m a l s = grown-little (cut-law m a l s .kept)
+-- ---- rows that are still to be looked at
+abbrev rowsLeft : ℕ → ℕ → List Lot → List Lot
+rowsLeft used i work = take (used - i) (drop i work)
 
-pub taken-little : (m a : ℕ) (l : Lot) (s : Taking) → cutOf m a l s .next .taken ≤ s .taken + 1
-taken-little m a l s = grown-little (cut-law m a l s .held)
+-- the row that is read is the first of them
+next-row : (used i : ℕ) (work : List Lot) → i < used → used ≤ length work → rowsLeft used i work ≡ getD work i noLot ∷ rowsLeft used (i + 1) work
+next-row used i work h w =
+    let e : used - i ≡ suc (used - (i + 1)) = omega arith in
+    rw (e, drop-cons work i noLot (omega arith), add-one i)
 
--- ---- a pass
--- what a pass comes to: these lots kept, these pieces held, in tables of these many rows
-pub record Parts (f : Pass) (stay pieces : List Lot) (rows scratch : ℕ) : Type 0 where
-  pub left : take (f .at .kept) (f .work) ≡ stay
-  pub taken : take (f .at .taken) (f .held) ≡ pieces
-  pub workRows : length (f .work) ≡ rows
-  pub heldRows : length (f .held) ≡ scratch
-  pub keptFits : f .at .kept ≤ rows
-  pub heldFits : f .at .taken ≤ scratch
+none-left : (used i : ℕ) (work : List Lot) → used ≤ i → rowsLeft used i work ≡ []
+none-left used i work h =
+    let e : used - i ≡ 0 = omega arith in
+    rw e
 
-module _ (m a : ℕ) where
-  -- the row that is read is the first of those that are left
-  next-row : (work : List Lot) (i n : ℕ) → i + suc n ≤ length work → take (suc n) (drop i work) ≡ getD work i noLot ∷ take n (drop (i + 1) work)
-  next-row work i n h = rw (drop-cons work i noLot (omega arith), add-one i)
+-- ---- a taking
+-- how far it is at row i: with what the rules take from the rows left, and leave of them, both tables come to what they come to
+pub record Going (m a x used : ℕ) (whole : List Lot) (i : ℕ) (s : Taking) (work held : List Lot) : Type 0 where
+  pub upto : i ≤ used
+  pub few : s .kept ≤ i
+  pub little : s .taken ≤ i
+  pub stay : take (s .kept) work ++ left m a (s .due) (rowsLeft used i work) ≡ left m a x whole
+  pub wait : take (s .taken) held ++ taken m a (s .due) (rowsLeft used i work) ≡ taken m a x whole
 
-  pass-parts : (n i : ℕ) (p : Pass) → p .at .kept ≤ i → i + n ≤ length (p .work) → p .at .taken + n ≤ length (p .held)
-      → Parts (pass m a n i p)
-      (take (p .at .kept) (p .work) ++ left m a (p .at .due) (take n (drop i (p .work))))
-      (take (p .at .taken) (p .held) ++ taken m a (p .at .due) (take n (drop i (p .work))))
-      (length (p .work))
-      (length (p .held))
-  unfolding pass passStep
-  pass-parts zero i p k w h =
-      unfold left taken in
-      record {
-        left = sym (append-nil (take (p .at .kept) (p .work)));
-        taken = sym (append-nil (take (p .at .taken) (p .held)));
-        workRows = refl;
-        heldRows = refl;
-        keptFits = omega arith;
-        heldFits = omega arith;
-      }
-  pass-parts (suc n) i p k w h =
-      let l : Lot = getD (p .work) i noLot in
-      let c : Cut = cutOf m a l (p .at) in
-      let law : CutLaw m a l (p .at) c = cut-law m a l (p .at) in
-      let rest : List Lot = take n (drop (i + 1) (p .work)) in
-      let q : Pass = passStep m a i p in
-      let rows : length (q .work) ≡ length (p .work) = length-set (p .work) (p .at .kept) (c .rest) in
-      let scratch : length (q .held) ≡ length (p .held) = length-set (p .held) (p .at .taken) (c .piece) in
-      let later : drop (i + 1) (q .work) ≡ drop (i + 1) (p .work) = drop-set-lt (i + 1) (p .work) (p .at .kept) (c .rest) (omega arith) in
-      let ih = pass-parts n (i + 1) q (omega (arith, grown-little (law .kept))) (omega arith) (omega (arith, grown-little (law .held))) in
-      record {
-        left =
-            ih .left
-            ∙ ap₂ (λ (x y : List Lot). x ++ left m a (c .next .due) (take n y)) (grown (law .kept) (p .work) (omega arith)) later
-            ∙ append-assoc (take (p .at .kept) (p .work)) (law .rests) (left m a (c .next .due) rest)
-            ∙ ap (λ (x : List Lot). take (p .at .kept) (p .work) ++ x) (sym (law .leaves rest) ∙ ap (left m a (p .at .due)) (sym (next-row (p .work) i n w)));
-        taken =
-            ih .taken
-            ∙ ap₂ (λ (x y : List Lot). x ++ taken m a (c .next .due) (take n y)) (grown (law .held) (p .held) (omega arith)) later
-            ∙ append-assoc (take (p .at .taken) (p .held)) (law .pieces) (taken m a (c .next .due) rest)
-            ∙ ap (λ (x : List Lot). take (p .at .taken) (p .held) ++ x) (sym (law .takes rest) ∙ ap (taken m a (p .at .due)) (sym (next-row (p .work) i n w)));
-        workRows = ih .workRows ∙ rows;
-        heldRows = ih .heldRows ∙ scratch;
-        keptFits = omega (arith, ih .keptFits);
-        heldFits = omega (arith, ih .heldFits);
-      }
+module _ (m a x used : ℕ) (work₀ held₀ : List Lot) (can : CanTake used work₀ held₀) where
+  abbrev whole : List Lot
+  whole = take used work₀
 
-  -- a whole pass over the used rows: what is left, and what was taken
-  pub pass-all : (x used : ℕ) (work held : List Lot) → used ≤ length work → used ≤ length held
-      → Parts (pass m a used 0 (passOf (takingOf x 0 0) work held)) (left m a x (take used work)) (taken m a x (take used work)) (length work) (length held)
-  pass-all x used work held w h = pass-parts used 0 (passOf (takingOf x 0 0) work held) (omega arith) (omega arith) (omega arith)
+  pub going-first : Going m a x used whole 0 (takingOf x 0 0) work₀ held₀
+  going-first = record { upto = omega arith; few = omega arith; little = omega arith; stay = rw (sub-zero used); wait = rw (sub-zero used) }
 
-  -- ---- the loop's turns
-  pub pass-more : (n i : ℕ) (p : Pass) → i < n → pass m a (n - i) i p ≡ pass m a (n - (i + 1)) (i + 1) (passStep m a i p)
-  unfolding pass
-  pass-more n i p h =
-      let e : n - i ≡ suc (n - (i + 1)) = omega arith in
-      rw e
+  module _ (i : ℕ) (s : Taking) (work held : List Lot) (g : Going m a x used whole i s work held) (rows : length work ≡ length work₀) (scratch : length held ≡ length held₀) where
+    -- one turn: the row read, asked and written
+    pub going-on : i < used → eqb (s .due) 0 ≡ false → (l : Lot) → l ≡ getD work i noLot → (c : Cut) → c ≡ cutOf m a i l s
+        → (held′ work′ : List Lot) → held′ ≡ cond (c .takes) (set held (s .taken) (c .piece)) held → work′ ≡ cond (c .moves) (set work (s .kept) (c .rest)) work
+        → Going m a x used whole (i + 1) (c .next) work′ held′
+    going-on more due l e c f held′ work′ hs ws =
+        let law : CutLaw m a i l s c = rw f (cut-law m a i l s due) in
+        let rest : List Lot = rowsLeft used (i + 1) work in
+        let first : rowsLeft used i work ≡ l ∷ rest = next-row used i work more (omega (arith, rows, can .room)) ∙ ap (λ (y : Lot). y ∷ rest) (sym e) in
+        let later : drop (i + 1) work′ ≡ drop (i + 1) work = ap (drop (i + 1)) ws ∙ later-same (c .moves) (i + 1) (s .kept) (c .rest) work (omega (arith, g .few)) in
+        let stays : take (c .next .kept) work′ ≡ take (s .kept) work ++ law .rests = ap (take (c .next .kept)) ws ∙ kept-grows (law .kept) work (omega (arith, g .few, rows, can .room)) e in
+        let waits : take (c .next .taken) held′ ≡ take (s .taken) held ++ law .pieces = ap (take (c .next .taken)) hs ∙ held-grows (law .held) held (omega (arith, g .little, scratch, can .scratch)) in
+        record {
+          upto = omega arith;
+          few = omega (arith, g .few, kept-few (law .kept));
+          little = omega (arith, g .little, held-little (law .held));
+          stay =
+              ap₂ (λ (y z : List Lot). y ++ left m a (c .next .due) (take (used - (i + 1)) z)) stays later
+              ∙ append-assoc (take (s .kept) work) (law .rests) (left m a (c .next .due) rest)
+              ∙ ap (λ (y : List Lot). take (s .kept) work ++ y) (sym (law .leaves rest) ∙ ap (left m a (s .due)) (sym first))
+              ∙ g .stay;
+          wait =
+              ap₂ (λ (y z : List Lot). y ++ taken m a (c .next .due) (take (used - (i + 1)) z)) waits later
+              ∙ append-assoc (take (s .taken) held) (law .pieces) (taken m a (c .next .due) rest)
+              ∙ ap (λ (y : List Lot). take (s .taken) held ++ y) (sym (law .takes rest) ∙ ap (taken m a (s .due)) (sym first))
+              ∙ g .wait;
+        }
 
-  -- one turn: the row read, asked and written
-  pub pass-turn : (n i : ℕ) (p : Pass) → i < n → (l : Lot) → l ≡ getD (p .work) i noLot → (c : Cut) → c ≡ cutOf m a l (p .at)
-      → (work held : List Lot) → held ≡ set (p .held) (p .at .taken) (c .piece) → work ≡ set (p .work) (p .at .kept) (c .rest)
-      → pass m a (n - i) i p ≡ pass m a (n - (i + 1)) (i + 1) (passOf (c .next) work held)
-  unfolding passStep
-  pass-turn n i p h l e c f work held g k = pass-more n i p h ∙ rw (k, g, f, e)
+    -- the rows before row i that are free are a gap
+    pub can-close : CanClose (s .kept) i used work
+    can-close = record { up = g .few; within = g .upto; room = omega (arith, rows, can .room) }
 
-  pub pass-end : (n i : ℕ) (p : Pass) → n ≤ i → pass m a (n - i) i p ≡ p
-  unfolding pass
-  pass-end n i p h =
-      let e : n - i ≡ 0 = omega arith in
-      rw e
+    module _ (over : Holds (not (ltb i used && not (eqb (s .due) 0)))) where
+      -- no row is left, or nothing is due any more: the rows left stay, and nothing more is taken
+      rest-stays : left m a (s .due) (rowsLeft used i work) ≡ rowsLeft used i work
+      unfolding left
+      rest-stays = go (ltb i used) (eqb (s .due) 0) refl refl over
+        where
+          go : (p q : Bool) → ltb i used ≡ p → eqb (s .due) 0 ≡ q → Holds (not (p && not q)) → left m a (s .due) (rowsLeft used i work) ≡ rowsLeft used i work
+          go false q e f h = rw (none-left used i work (ltb-false i used e))
+          go true true e f h = rw (eqb-true (s .due) 0 f) (left-none m a (rowsLeft used i work))
+          go true false e f h = absurd h
+
+      rest-none : taken m a (s .due) (rowsLeft used i work) ≡ []
+      unfolding taken
+      rest-none = go (ltb i used) (eqb (s .due) 0) refl refl over
+        where
+          go : (p q : Bool) → ltb i used ≡ p → eqb (s .due) 0 ≡ q → Holds (not (p && not q)) → taken m a (s .due) (rowsLeft used i work) ≡ []
+          go false q e f h = rw (none-left used i work (ltb-false i used e))
+          go true true e f h = rw (eqb-true (s .due) 0 f) (taken-none m a (rowsLeft used i work))
+          go true false e f h = absurd h
+
+      -- the rows left move up, and all is done
+      pub going-last : (after : List Lot) → length after ≡ length work → Closes (s .kept) i used work after → TakesFrom m a x used work₀ (takingOf (s .due) (s .kept + (used - i)) (s .taken)) after held
+      going-last after len c =
+          let stays : take (s .kept + (used - i)) after ≡ left m a x whole = c .lots ∙ ap (λ (y : List Lot). take (s .kept) work ++ y) (sym rest-stays) ∙ g .stay in
+          let waits : take (s .taken) held ≡ taken m a x whole = sym (append-nil (take (s .taken) held)) ∙ ap (λ (y : List Lot). take (s .taken) held ++ y) (sym rest-none) ∙ g .wait in
+          record {
+            stay = stays;
+            wait = waits;
+            kept = sym (length-take-le (s .kept + (used - i)) after (omega (arith, len, rows, g .few, g .upto, can .room))) ∙ ap length stays;
+            taken = sym (length-take-le (s .taken) held (omega (arith, scratch, g .little, g .upto, can .scratch))) ∙ ap length waits;
+          }
+
+-- ---- a gap that is closed
+-- how far it is: row i moves up to row k next; the rows closed up and those left come to what is asked
+pub record Closing (to from used : ℕ) (work₀ : List Lot) (k i : ℕ) (work : List Lot) : Type 0 where
+  pub upto : i ≤ used
+  pub since : from ≤ i
+  pub even : k + from ≡ to + i
+  pub lots : take k work ++ rowsLeft used i work ≡ take to work₀ ++ rowsLeft used from work₀
+
+module _ (to from used : ℕ) (work₀ : List Lot) (can : CanClose to from used work₀) where
+  pub closing-first : Closing to from used work₀ to from work₀
+  closing-first = record { upto = can .within; since = omega arith; even = refl; lots = refl }
+
+  module _ (k i : ℕ) (work : List Lot) (g : Closing to from used work₀ k i work) (rows : length work ≡ length work₀) where
+    pub closing-on : i < used → (l : Lot) → l ≡ getD work i noLot → (work′ : List Lot) → work′ ≡ set work k l → Closing to from used work₀ (k + 1) (i + 1) work′
+    closing-on more l e work′ f =
+        let before : k ≤ i = omega (arith, g .even, can .up) in
+        let rest : List Lot = rowsLeft used (i + 1) work in
+        let here : k < length work = omega (arith, rows, can .room) in
+        let later : drop (i + 1) work′ ≡ drop (i + 1) work = ap (drop (i + 1)) f ∙ drop-set-lt (i + 1) work k l (omega arith) in
+        let stays : take (k + 1) work′ ≡ take k work ++ (l ∷ []) = ap (take (k + 1)) f ∙ rw (add-one k) (take-suc-set work k l here) in
+        let first : l ∷ rest ≡ rowsLeft used i work = ap (λ (y : Lot). y ∷ rest) e ∙ sym (next-row used i work more (omega (arith, rows, can .room))) in
+        record {
+          upto = omega arith;
+          since = omega (arith, g .since);
+          even = omega (arith, g .even);
+          lots =
+              ap₂ (λ (y z : List Lot). y ++ take (used - (i + 1)) z) stays later
+              ∙ append-assoc (take k work) (l ∷ []) rest
+              ∙ ap (λ (y : List Lot). take k work ++ y) first
+              ∙ g .lots;
+        }
+
+    -- no row is left, or none has to move
+    pub closing-last : Holds (not (ltb i used && not (eqb k i))) → Closes to from used work₀ work
+    closing-last over = record { lots = go (ltb i used) (eqb k i) refl refl over ∙ g .lots }
+      where
+        go : (p q : Bool) → ltb i used ≡ p → eqb k i ≡ q → Holds (not (p && not q)) → take (to + (used - from)) work ≡ take k work ++ rowsLeft used i work
+        go false q e f h =
+            let all : to + (used - from) ≡ k = omega (arith, ltb-false i used e, g .upto, g .even, can .within) in
+            rw (all, none-left used i work (ltb-false i used e)) (sym (append-nil (take k work)))
+        go true true e f h =
+            let same : k ≡ i = eqb-true k i f in
+            let all : to + (used - from) ≡ i + (used - i) = omega (arith, same, g .upto, g .even, can .within) in
+            rw (all, same) (take-add i (used - i) work)
+        go true false e f h = absurd h
 
 -- ---- pieces that join
 module _ (m used : ℕ) (held : List Lot) where

@@ -142,7 +142,7 @@ replay-more t i used work a r e n after q =
 pub can-replay : (t : List ℕ) (work₀ held₀ : List Lot) (at i used : ℕ) (work held : List Lot) → CanReplayAll at t work₀ held₀ → i < at → length work ≡ length work₀ → length held ≡ length held₀ → ReplaysAll i t used work → CanReplay used work held
 can-replay t work₀ held₀ at i used work held can l p q a =
     let few : used ≤ i = few-lots t i used work a in
-    record { few = omega (arith, can .few); room = rw p (omega (arith, can .room)); scratch = rw q (can .scratch) }
+    record { few = omega (arith, can .few); room = rw p (omega (arith, can .room)); scratch = rw q (omega (arith, can .scratch)) }
 
 -- ---- one less, or not
 pub none-less : (really : Bool) (x : ℕ) → really && not (eqb x 0) ≡ false → x ≡ cond really (x - 1) x

@@ -12,34 +12,29 @@ use Rattle.rules.specs.History.{Kind, kindOf}
 use Rattle.rules.specs.Lots.{ofMember, takenBy, leftBy, lotOf, lotsAs}
 use Rattle.lots.proofs.Taking.{takes, takes-count}
 use Rattle.history.specs.declared.work.Taking.{Taking}
-use Rattle.history.specs.Working.{takingOf, passOf, pass, joinedOn, CanReplay, Replays}
-use Rattle.history.proofs.Passing.{Parts, pass-all, joined-all}
+use Rattle.history.specs.Working.{CanTake, TakesFrom, joinedOn, CanReplay, Replays}
+use Rattle.history.proofs.Passing.{in-rows, joined-all}
 
 module _ (r : Record) (used : ℕ) (work held : List Lot) (can : CanReplay used work held) where
   -- as many lots lie in the used rows
   pub used-count : length (take used work) ≡ used
   used-count = length-take-le used work (omega (arith, can .room))
 
-  -- ---- after a pass
-  module _ (t : Taking) (left taken : List Lot) (e : passOf t left taken ≡ pass (r .first) (r .asset) used 0 (passOf (takingOf (r .amount) 0 0) work held)) where
-    passed : Parts (passOf t left taken) (leftBy r (take used work)) (takenBy r (take used work)) (length work) (length held)
-    passed =
-        rw e
-        (pass-all (r .first) (r .asset) (r .amount) used work held (omega (arith, can .room)) (omega (arith, can .few, can .scratch)))
+  pub can-take : CanTake used work held
+  can-take = record { few = omega (arith, can .few); room = omega (arith, can .room); scratch = can .scratch }
 
-    kept-count : t .kept ≡ length (leftBy r (take used work))
-    kept-count = sym (length-take-le (t .kept) left (omega (arith, passed .keptFits, passed .workRows))) ∙ ap length (passed .left)
-
-    taken-count : t .taken ≡ length (takenBy r (take used work))
-    taken-count = sym (length-take-le (t .taken) taken (omega (arith, passed .heldFits, passed .heldRows))) ∙ ap length (passed .taken)
+  -- ---- after a taking
+  module _ (t : Taking) (left taken : List Lot) (same : length left ≡ length work) (e : TakesFrom (r .first) (r .asset) (r .amount) used work t left taken) where
+    few-taken : t .taken ≤ length taken
+    few-taken = in-rows (t .taken) taken (ap length (e .wait) ∙ sym (e .taken))
 
     -- a split makes one lot more
     pub few-after : t .kept + t .taken ≤ used + 1
-    few-after = omega (arith, kept-count, taken-count, used-count, takes-count (takes (r .first) (r .asset) (r .amount) (take used work)))
+    few-after = omega (arith, e .kept, e .taken, used-count, takes-count (takes (r .first) (r .asset) (r .amount) (take used work)))
 
     pub replays-withdrawal : kindOf r ≡ Kind.withdrawal → (after : List Lot) → after ≡ left → Replays r used work (t .kept) after
     unfolding lotsAs
-    replays-withdrawal k after f = record { lots = rw (f, k) (passed .left); count = rw k kept-count }
+    replays-withdrawal k after f = record { lots = rw (f, k) (e .stay); count = rw k (e .kept) }
 
     pub replays-transfer : kindOf r ≡ Kind.transfer → (after : List Lot) → after ≡ joinedOn (r .second) (t .taken) 0 (t .kept) taken left → Replays r used work (t .kept + t .taken) after
     unfolding lotsAs
@@ -47,11 +42,11 @@ module _ (r : Record) (used : ℕ) (work held : List Lot) (can : CanReplay used 
         record {
           lots =
               rw (f, k)
-              (joined-all (r .second) (t .kept) taken (t .taken) left (omega (arith, few-after, passed .workRows, can .room)) (omega (arith, passed .heldFits, passed .heldRows))
-              ∙ ap₂ (λ (x y : List Lot). x ++ map (ofMember (r .second)) y) (passed .left) (passed .taken));
+              (joined-all (r .second) (t .kept) taken (t .taken) left (omega (arith, few-after, same, can .room)) few-taken
+              ∙ ap₂ (λ (x y : List Lot). x ++ map (ofMember (r .second)) y) (e .stay) (e .wait));
           count =
               rw (k, length-append (leftBy r (take used work)) (map (ofMember (r .second)) (takenBy r (take used work))), length-map (takenBy r (take used work)) (ofMember (r .second)))
-              (omega (arith, kept-count, taken-count));
+              (omega (arith, e .kept, e .taken));
         }
 
   -- ---- the other kinds

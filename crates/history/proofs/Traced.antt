@@ -14,6 +14,7 @@ use Rattle.rules.specs.declared.rows.Nonce.{Nonce}
 use Rattle.rules.specs.declared.rows.Lot.{Lot}
 use Rattle.rules.specs.declared.answers.Refusal.{Refusal}
 use Rattle.rules.specs.declared.answers.Answer.{Answer}
+use Rattle.rules.specs.Limits.{historyRows}
 use Rattle.rules.specs.Lists.{all}
 use Rattle.rules.specs.Tables.{rowsOf, recordShape}
 use Rattle.rules.specs.State.{Book, view, historyOf}
@@ -21,7 +22,7 @@ use Rattle.rules.specs.Replies.{numberOf, told, plain}
 use Rattle.rules.specs.Refusals.{traceRefusals}
 use Rattle.rules.specs.Frame.{inFrame}
 use Rattle.rules.specs.History.{historyInFrame, withdrawals}
-use Rattle.rules.specs.Lots.{noLot, takenBy, leftBy, replay, traceFrom, pieces}
+use Rattle.rules.specs.Lots.{noLot, replay, traceFrom, pieces}
 use Rattle.rules.specs.Answer.{badHistory, inFront, traceNumber, traceAnswer}
 use Rattle.rules.proofs.Laying.{length-rows}
 use Rattle.rules.proofs.Tests.{both, neither, not-holds, twice-not, all-at, none-applies}
@@ -33,9 +34,9 @@ use Rattle.desk.proofs.Books.{Framed, framed}
 use Rattle.lots.specs.Traces.{beforePayment}
 use Rattle.lots.proofs.LotCounts.{pieces-count}
 use Rattle.history.specs.declared.work.Taking.{Taking}
-use Rattle.history.specs.Working.{takingOf, passOf, pass, joinedOn}
+use Rattle.history.specs.Working.{CanTake, TakesFrom, joinedOn}
 use Rattle.history.specs.Tracing.{traceOutcomeOf, traceNumberFor, CanReplayAll, ReplaysAll, CanTrace, Traces}
-use Rattle.history.proofs.Passing.{Parts, pass-all, joined-in-front}
+use Rattle.history.proofs.Passing.{in-rows, joined-in-front}
 use Rattle.history.proofs.Counting.{not-both}
 use Rattle.history.proofs.Payments.{no-payment, place-in, pieces-there, few-lots}
 
@@ -64,7 +65,7 @@ module _ (history : List ℕ) (records n : ℕ) (work held out : List Lot) (can 
 
   -- the records before the payment can be replayed
   pub can-replay-all : CanReplayAll at history work held
-  can-replay-all = record { few = omega (arith, in-place, can .few); lie = omega (arith, in-place, can .lie); room = omega (arith, in-place, can .room); scratch = can .scratch }
+  can-replay-all = record { few = omega (arith, in-place, can .few); lie = omega (arith, in-place, can .lie); room = omega (arith, in-place, can .room); scratch = omega (arith, in-place, can .scratch) }
 
   pub record-there : at * 5 + 5 ≤ length history
   record-there = omega (arith, in-place, can .lie)
@@ -74,31 +75,25 @@ module _ (history : List ℕ) (records n : ℕ) (work held out : List Lot) (can 
     few-here : used ≤ at
     few-here = few-lots history at used work₁ a
 
-    pub few-used : used ≤ 1024
-    few-used = omega (arith, few-here, in-place, can .few)
+    pub can-take-here : CanTake used work₁ held₁
+    can-take-here =
+        record {
+          few = omega (arith, few-here, in-place, can .few);
+          room = rw wide (omega (arith, few-here, in-place, can .room));
+          scratch = rw long (omega (arith, few-here, in-place, can .scratch));
+        }
 
-    module _ (r : Record) (e : r ≡ rowAt recordShape at history) (t : Taking) (work₂ held₂ : List Lot)
-        (p : passOf t work₂ held₂ ≡ pass (r .first) (r .asset) used 0 (passOf (takingOf (r .amount) 0 0) work₁ held₁)) where
+    module _ (r : Record) (e : r ≡ rowAt recordShape at history) (t : Taking) (work₂ held₂ : List Lot) (p : TakesFrom (r .first) (r .asset) (r .amount) used work₁ t work₂ held₂) where
       ps : List Lot
       ps = traceFrom [] n (rowsOf recordShape records history)
-
-      parts : Parts (passOf t work₂ held₂) (leftBy r (take used work₁)) (takenBy r (take used work₁)) (length work₁) (length held₁)
-      parts =
-          rw p
-          (pass-all (r .first) (r .asset) (r .amount) used work₁ held₁
-          (rw wide (omega (arith, few-here, in-place, can .room)))
-          (rw long (omega (arith, few-used, can .scratch))))
 
       -- what was taken are the pieces
       taken-are : take (t .taken) held₂ ≡ ps
       unfolding ps
-      taken-are = parts .taken ∙ rw (a .lots, e, found) (sym (pieces-there history records n (can .paid)))
-
-      held-fits : t .taken ≤ length held₂
-      held-fits = omega (arith, parts .heldFits, parts .heldRows)
+      taken-are = p .wait ∙ rw (a .lots, e, found) (sym (pieces-there history records n (can .paid)))
 
       counted : t .taken ≡ length ps
-      counted = sym (length-take-le (t .taken) held₂ held-fits) ∙ ap length taken-are
+      counted = p .taken ∙ ap length (sym (p .wait) ∙ taken-are)
 
       pub few-pieces : t .taken ≤ records
       unfolding ps
@@ -117,8 +112,8 @@ module _ (history : List ℕ) (records n : ℕ) (work held out : List Lot) (can 
             clears = c ∙ ap (λ (k : ℕ). replicate k noLot) (w ∙ wide);
             lays =
                 l
-                ∙ joined-in-front (r .first) (r .asset) (r .amount) (take used work₁) held₂ out (t .taken) (parts .taken) held-fits (omega (arith, few-pieces, can .places))
-                ∙ ap (λ (k : List Lot). inFront k out) (sym (parts .taken) ∙ taken-are);
+                ∙ joined-in-front (r .first) (r .asset) (r .amount) (take used work₁) held₂ out (t .taken) (p .wait) (in-rows (t .taken) held₂ (ap length (p .wait) ∙ sym (p .taken))) (omega (arith, few-pieces, can .places))
+                ∙ ap (λ (k : List Lot). inFront k out) (sym (p .wait) ∙ taken-are);
           }
 
 -- ---- the two ends
@@ -145,8 +140,17 @@ module _ (b : Book) (work out : List Lot) (n : Nonce) (a : Answer) (tells : told
   done : isDone a ≡ true → traceNumberFor b (length work) (length out) n ≡ 0
   done d = done-number a (traceNumberFor b (length work) (length out) n) tells d
 
-  -- not refused: it can be traced
-  pub can-trace : isDone a ≡ true → (held : List Lot) → length held ≡ 1024 → CanTrace (b .history) (b .desk .records) (n .0) work held out
+  -- not refused: the history is one, and it can be traced
+  pub few-records : isDone a ≡ true → b .desk .records ≤ historyRows
+  unfolding traceNumberFor traceRefusals view numberOf all
+  few-records d =
+      let rs : List (ℕ × Bool) = badHistory b ∷ traceRefusals (length work) (length out) (view b) n in
+      let none = none-applies rs refl (done d) in
+      let (u, v) = neither (not (inFrame b)) (not (historyInFrame (historyOf b))) (all-at (λ r. not (r .1)) rs 0 (1, false) refl none) in
+      let f : Framed b = framed b (twice-not (inFrame b) u) in
+      f .records
+
+  pub can-trace : isDone a ≡ true → (held : List Lot) → b .desk .records ≤ length held → CanTrace (b .history) (b .desk .records) (n .0) work held out
   unfolding traceNumberFor traceRefusals view numberOf all
   can-trace d held e =
       let rs : List (ℕ × Bool) = badHistory b ∷ traceRefusals (length work) (length out) (view b) n in
@@ -161,7 +165,7 @@ module _ (b : Book) (work out : List Lot) (n : Nonce) (a : Answer) (tells : told
         lie = omega arith;
         room = omega (arith, count, ltb-false (length work) (length (historyOf b)) (not-holds (ltb (length work) (length (historyOf b))) w));
         places = omega (arith, count, ltb-false (length out) (length (historyOf b)) (not-holds (ltb (length out) (length (historyOf b))) p));
-        scratch = omega arith;
+        scratch = e;
         paid = leb-false (withdrawals (historyOf b)) (n .0) (not-holds (leb (withdrawals (historyOf b)) (n .0)) (no 2));
       }
 

@@ -22,12 +22,12 @@ traceOutcomeOf r work pieces = record { reply = told r; work = work; pieces = pi
 unfoldable pub traceNumberFor : Book → ℕ → ℕ → Nonce → ℕ
 traceNumberFor b workRows pieceRows n = smallest (badHistory b ∷ traceRefusals workRows pieceRows (view b) n)
 
--- so many records can be replayed: they lie in the table, and there is a row for a lot of each
+-- so many records can be replayed: they lie in the table, and each table has a row for a lot of each
 pub record CanReplayAll (at : ℕ) (history : List ℕ) (work held : List Lot) : Type 0 where
   pub few : at ≤ 1024
   pub lie : at * 5 ≤ length history
   pub room : at ≤ length work
-  pub scratch : 1024 ≤ length held
+  pub scratch : at ≤ length held
 
 -- the lots after them, and how many
 pub record ReplaysAll (at : ℕ) (history : List ℕ) (n : ℕ) (work : List Lot) : Type 0 where
@@ -40,7 +40,7 @@ pub record CanTrace (history : List ℕ) (records n : ℕ) (work held pieces : L
   pub lie : records * 5 ≤ length history
   pub room : records ≤ length work
   pub places : records ≤ length pieces
-  pub scratch : 1024 ≤ length held
+  pub scratch : records ≤ length held
   pub paid : n < withdrawals (rowsOf recordShape records history)
 
 -- the piece count, the work table all zeros, and the pieces in front of theirs

@@ -1,13 +1,13 @@
--- The loops over a table of lots, said as they go; and what one record's replay leaves of the lots.
+-- What the loops over a table of lots rest on and come to, and what one record's replay leaves of the lots.
 use Prim.Native.Nat.{ℕ, zero, suc, _+_, _-_, _≤_, _<_}
 use mathlib.Core.Path.{_≡_}
-use mathlib.Core.Bool.{not, _||_, cond}
-use mathlib.Core.List.{List}
+use mathlib.Core.Bool.{Bool, true, false, not, cond}
+use mathlib.Core.List.{List, _++_}
 use lib.Dec.{leb, eqb}
-use lib.ListN.{length, getD, set, take}
+use lib.ListN.{length, getD, set, take, drop}
 use Rattle.rules.specs.declared.rows.Record.{Record}
 use Rattle.rules.specs.declared.rows.Lot.{Lot}
-use Rattle.rules.specs.Lots.{noLot, inLine, ofAmount, ofMember, lotsAfter}
+use Rattle.rules.specs.Lots.{noLot, inLine, ofAmount, ofMember, taken, left, lotsAfter}
 use Rattle.history.specs.declared.work.Taking.{Taking}
 use Rattle.history.specs.declared.work.Cut.{Cut}
 
@@ -15,35 +15,44 @@ use Rattle.history.specs.declared.work.Cut.{Cut}
 abbrev pub takingOf : ℕ → ℕ → ℕ → Taking
 takingOf due kept taken = record { due = due; kept = kept; taken = taken }
 
-abbrev pub cutInto : Lot → Lot → Taking → Cut
-cutInto piece rest next = record { piece = piece; rest = rest; next = next }
+abbrev pub cutInto : Lot → Lot → Taking → Bool → Bool → Cut
+cutInto piece rest next takes moves = record { piece = piece; rest = rest; next = next; takes = takes; moves = moves }
 
--- what becomes of one lot: it stays, or is taken whole, or is split
-unfoldable pub cutOf : ℕ → ℕ → Lot → Taking → Cut
-cutOf m a l s =
-    cond (eqb (s .due) 0 || not (inLine m a l)) (cutInto l l (takingOf (s .due) (s .kept + 1) (s .taken)))
-    (cond (leb (l .amount) (s .due)) (cutInto l l (takingOf (s .due - l .amount) (s .kept) (s .taken + 1)))
-    (cutInto (ofAmount (s .due) l) (ofAmount (l .amount - s .due) l) (takingOf 0 (s .kept + 1) (s .taken + 1))))
+-- what becomes of the lot in row i: it stays, and moves unless that is its row, or is taken whole, or is split
+abbrev pub cutNone : ℕ → Lot → Taking → Cut
+cutNone i l s = cutInto l l (takingOf (s .due) (s .kept + 1) (s .taken)) false (not (eqb (s .kept) i))
 
--- how far it is, with the rows of both tables
-pub record Pass : Type 0 where
-  pub at : Taking
-  pub work : List Lot
-  pub held : List Lot
+abbrev pub cutWhole : Lot → Taking → Cut
+cutWhole l s = cutInto l l (takingOf (s .due - l .amount) (s .kept) (s .taken + 1)) true false
 
-abbrev pub passOf : Taking → List Lot → List Lot → Pass
-passOf s work held = record { at = s; work = work; held = held }
+abbrev pub cutInTwo : Lot → Taking → Cut
+cutInTwo l s = cutInto (ofAmount (s .due) l) (ofAmount (l .amount - s .due) l) (takingOf 0 (s .kept + 1) (s .taken + 1)) true true
 
--- one row: what is taken of it goes after the pieces held so far, what stays after the rows kept so far
-unfoldable pub passStep : ℕ → ℕ → ℕ → Pass → Pass
-passStep m a i p =
-    let c = cutOf m a (getD (p .work) i noLot) (p .at) in
-    passOf (c .next) (set (p .work) (p .at .kept) (c .rest)) (set (p .held) (p .at .taken) (c .piece))
+unfoldable pub cutOf : ℕ → ℕ → ℕ → Lot → Taking → Cut
+cutOf m a i l s = cond (not (inLine m a l)) (cutNone i l s) (cond (leb (l .amount) (s .due)) (cutWhole l s) (cutInTwo l s))
 
--- n rows from row i on
-unfoldable pub pass : ℕ → ℕ → ℕ → ℕ → Pass → Pass
-pass m a zero i p = p
-pass m a (suc n) i p = pass m a n (i + 1) (passStep m a i p)
+-- so many rows can be taken from: there are as many, and the held table has one for each
+pub record CanTake (used : ℕ) (work held : List Lot) : Type 0 where
+  pub few : used ≤ 1024
+  pub room : used ≤ length work
+  pub scratch : used ≤ length held
+
+-- the lots that are left stand in the first rows of their table, and those that were taken in the first rows of the held table; how many of each
+pub record TakesFrom (m a x used : ℕ) (work : List Lot) (t : Taking) (after held : List Lot) : Type 0 where
+  pub stay : take (t .kept) after ≡ left m a x (take used work)
+  pub wait : take (t .taken) held ≡ taken m a x (take used work)
+  pub kept : t .kept ≡ length (left m a x (take used work))
+  pub taken : t .taken ≡ length (taken m a x (take used work))
+
+-- the rows between two are a gap that can be closed
+pub record CanClose (to from used : ℕ) (work : List Lot) : Type 0 where
+  pub up : to ≤ from
+  pub within : from ≤ used
+  pub room : used ≤ length work
+
+-- the used rows after the gap stand behind those before it
+pub record Closes (to from used : ℕ) (work after : List Lot) : Type 0 where
+  pub lots : take (to + (used - from)) after ≡ take to work ++ take (used - from) (drop from work)
 
 -- ---- joining: n held pieces from piece j on, each with its new owner, after the used rows
 unfoldable pub joinedOn : ℕ → ℕ → ℕ → ℕ → List Lot → List Lot → List Lot
@@ -55,7 +64,7 @@ joinedOn m (suc n) j used held work = joinedOn m n (j + 1) used held (set work (
 pub record CanReplay (used : ℕ) (work held : List Lot) : Type 0 where
   pub few : used < 1024
   pub room : used < length work
-  pub scratch : 1024 ≤ length held
+  pub scratch : used ≤ length held
 
 -- the lots are what the rules make of those in the used rows, and so many
 pub record Replays (r : Record) (used : ℕ) (work : List Lot) (n : ℕ) (left : List Lot) : Type 0 where

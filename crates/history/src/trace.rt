@@ -28,13 +28,20 @@ pub fn trace(
         return reply;
     }
     // Where the pieces of a transfer wait before they join the end: the work table may have no rows to
-    // spare, and the pieces' table keeps what it has until the trace is found.
-    let mut held = [Lot {
+    // spare, and the pieces' table keeps what it has until the trace is found. A row for each record is
+    // enough: a short history is not made to pay for a long one.
+    let none = Lot {
         member: 0,
         asset: 0,
         number: DepositNumber(0),
         amount: 0,
-    }; 1024];
+    };
+    if d.records <= 32 {
+        let mut held = [none; 32];
+        let count = traced(history, d.records, n.0, work, &mut held, pieces);
+        return Answer::Traced(count);
+    }
+    let mut held = [none; 1024];
     let count = traced(history, d.records, n.0, work, &mut held, pieces);
     Answer::Traced(count)
 }

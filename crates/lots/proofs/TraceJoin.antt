@@ -37,11 +37,18 @@ frame-first true false = refl
 frame-first false true = refl
 frame-first false false = refl
 
--- no table of so many rows is too small for a book in frame
-no-table-small : (b : Book) (rows : ℕ) → inFrame b ≡ true → historyRows ≤ rows → ltb rows (length (historyOf b)) ≡ false
-no-table-small b rows h l = le-ltb rows (length (historyOf b)) (omega (arith, records-fit b h))
+-- a table has a row for each record, if there are no more than a history can have
+abbrev pub Enough : Book → ℕ → Type 0
+Enough b rows = length (historyOf b) ≤ historyRows → length (historyOf b) ≤ rows
 
-module _ (b : Book) (work out : List Lot) (n : Nonce) (w : historyRows ≤ length work) (o : historyRows ≤ length out) where
+pub enough : (b : Book) (rows : ℕ) → historyRows ≤ rows → Enough b rows
+enough b rows l h = omega arith
+
+-- no such table is too small for a book in frame
+no-table-small : (b : Book) (rows : ℕ) → inFrame b ≡ true → Enough b rows → ltb rows (length (historyOf b)) ≡ false
+no-table-small b rows h l = le-ltb rows (length (historyOf b)) (l (records-fit b h))
+
+module _ (b : Book) (work out : List Lot) (n : Nonce) (w : Enough b (length work)) (o : Enough b (length out)) where
   -- the two give the same number
   pub trace-number : replyNumber b (Call.Trace n) ≡ traceNumber b work out n
   unfolding replyNumber traceNumber frameTest refusals traceRefusals view numberOf
@@ -56,7 +63,7 @@ module _ (b : Book) (work out : List Lot) (n : Nonce) (w : historyRows ≤ lengt
       go : (t : Bool) → inFrame b ≡ t → (u : Bool)
           → smallest ((2, not t || not u) ∷ (20, small historyRows historyRows) ∷ (21, missing) ∷ [])
           ≡ smallest ((2, not t || not u) ∷ (20, small (length work) (length out)) ∷ (21, missing) ∷ [])
-      go true e u = rw (no-table-small b historyRows e (omega arith), no-table-small b (length work) e w, no-table-small b (length out) e o)
+      go true e u = rw (no-table-small b historyRows e (enough b historyRows (omega arith)), no-table-small b (length work) e w, no-table-small b (length out) e o)
       go false e u = frame-first (small historyRows historyRows) missing ∙ sym (frame-first (small (length work) (length out)) missing)
 
   -- so the reply is the same

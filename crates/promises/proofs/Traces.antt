@@ -17,7 +17,7 @@ use Rattle.rules.proofs.Facts.{Accepted}
 use Rattle.lots.specs.Traces.{coins, isNamed, claimsDeposit, nthWithdrawal, beforePayment, afterPayment, Traced}
 use Rattle.lots.proofs.ListLaws.{any-append}
 use Rattle.lots.proofs.TraceLaws.{payment-at, trace-sound}
-use Rattle.lots.proofs.TraceJoin.{trace-reply, trace-pieces}
+use Rattle.lots.proofs.TraceJoin.{enough, trace-reply, trace-pieces}
 use Rattle.promises.specs.Demand2.{claims, claimsLot, traced}
 use Rattle.promises.specs.Promises.{PaymentTraced}
 use Rattle.promises.proofs.Reached.{Ready, ready-empty, ready-run}
@@ -58,6 +58,9 @@ payment-traced b cs e n i =
       positive = t .positive;
       sourced =
           all-imply (isNamed (beforePayment (n .0) h)) (λ l. any (claimsLot (deposits b cs) l) (claims b cs)) (λ l c. claimed-lot b cs e l (named-still (n .0) h i l c)) (traced b cs n) (t .named);
-      lent = λ work out w o. (sym (trace-reply (run b cs) work out n w o), trace-pieces (run b cs) work out n w o);
+      lent = λ work out w o.
+          let rows = enough (run b cs) (length work) w in
+          let places = enough (run b cs) (length out) o in
+          (sym (trace-reply (run b cs) work out n rows places), trace-pieces (run b cs) work out n rows places);
       oldestFirst = ap coins p ∙ oldest-first h n (r .good .replayed .passes) i;
     }

@@ -10,17 +10,18 @@ use Rattle.rules.specs.declared.rows.Lot.{Lot}
 use Rattle.rules.specs.declared.calls.Call.{Call}
 use Rattle.rules.specs.declared.answers.Answer.{Answer}
 use Rattle.rules.specs.declared.answers.Answered.{Answered}
-use Rattle.rules.specs.Tables.{edited}
-use Rattle.rules.specs.State.{Book, view, laid, deskOf}
+use Rattle.rules.specs.Tables.{edited, recordShape}
+use Rattle.rules.specs.State.{Book, view, laid, deskOf, historyOf}
 use Rattle.rules.specs.Replies.{Reply, told, if-done}
 use Rattle.rules.specs.Effects.{effect, balancesAfter, holdersAfter, inboxEdit, outsideAfter, recordsOf}
 use Rattle.rules.specs.Lots.{pieces}
 use Rattle.rules.specs.Answer.{answer, outcomeOf, replyNumber, replyWith, doneAnswer, piecesOf, traceAnswer, TraceOutcome}
+use Rattle.rules.proofs.Laying.{length-rows}
 use Rattle.rules.proofs.Facts.{Accepted}
 use Rattle.rules.proofs.Accepts.{accepted-frame}
 use Rattle.desk.proofs.Books.{Framed, framed, inbox-kept, outbox-kept, history-kept, inbox-count, outbox-count, flight-count, history-count}
 use Rattle.history.specs.Tracing.{traceOutcomeOf}
-use Rattle.lots.proofs.TraceJoin.{trace-reply, trace-pieces}
+use Rattle.lots.proofs.TraceJoin.{Enough, trace-reply, trace-pieces}
 use Rattle.replies.specs.Writing.{Page, page, put, replyLine}
 use Rattle.rules.specs.Transcript.{replyText}
 use Rattle.replies.proofs.PageLaws.{reply-line, reply-text}
@@ -71,12 +72,21 @@ replyFound o = o .reply
 abbrev piecesFound : TraceOutcome → List Lot
 piecesFound o = o .pieces
 
-module _ (b : Book) (work out : List Lot) (n : Nonce) (a : Answer) (work′ out′ : List Lot) (has : HasTables work out) (e : traceOutcomeOf a work′ out′ ≡ traceAnswer b work out n) where
+module _ (b : Book) (work out : List Lot) (n : Nonce) (a : Answer) (work′ out′ : List Lot) (has : HasTables (b .desk .records) work out) (e : traceOutcomeOf a work′ out′ ≡ traceAnswer b work out n) where
+  count : length (historyOf b) ≡ b .desk .records
+  count = length-rows recordShape (b .desk .records) (b .history)
+
+  rows : Enough b (length work)
+  rows = rw count (has .rows)
+
+  places : Enough b (length out)
+  places = rw count (has .places)
+
   reply-is : told a ≡ answer b (Call.Trace n) .reply
-  reply-is = ap replyFound e ∙ sym (trace-reply b work out n (has .rows) (has .places))
+  reply-is = ap replyFound e ∙ sym (trace-reply b work out n rows places)
 
   rows-are : take (length (answer b (Call.Trace n) .pieces)) out′ ≡ answer b (Call.Trace n) .pieces
-  rows-are = ap (λ (t : List Lot). take (length (answer b (Call.Trace n) .pieces)) t) (ap piecesFound e) ∙ trace-pieces b work out n (has .rows) (has .places)
+  rows-are = ap (λ (t : List Lot). take (length (answer b (Call.Trace n) .pieces)) t) (ap piecesFound e) ∙ trace-pieces b work out n rows places
 
   pieces-are : handed a out′ ≡ answer b (Call.Trace n) .pieces
   unfolding answer piecesOf doneAnswer

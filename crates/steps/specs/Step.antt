@@ -50,7 +50,7 @@ handedCount (Answer.Refused why) = 0
 unfoldable pub answerText : ℕ → Answer → List Lot → List ℕ
 answerText n a ps = replyStart n (told a) ++ tabbed (joined pieceValues (handed a ps)) ++ (lineFeed ∷ [])
 
--- the two tables of a trace have a row for each record that a history can have
-pub record HasTables (work pieces : List Lot) : Type 0 where
-  pub rows : historyRows ≤ length work
-  pub places : historyRows ≤ length pieces
+-- the two tables of a trace have a row for each of so many records, if a history can have as many
+pub record HasTables (records : ℕ) (work pieces : List Lot) : Type 0 where
+  pub rows : records ≤ historyRows → records ≤ length work
+  pub places : records ≤ historyRows → records ≤ length pieces

@@ -10,6 +10,7 @@ use rules::rows::DepositNumber;
 use rules::rows::Lot;
 use rules::rows::Nonce;
 ghost use mathlib.Core.Path.{_≡_};
+ghost use Prim.Native.Nat.{_≤_};
 ghost use lib.ListN.{take};
 ghost use Rattle.rules.specs.declared.calls.Call.{Call};
 ghost use Rattle.rules.specs.Lists.{joined};
@@ -20,7 +21,8 @@ ghost use Rattle.replies.specs.Writing.{page, put};
 ghost use Rattle.steps.specs.Step.{repliedOf, replied, handedCount, answerText, steppedOf, HasTables};
 
 // A trace works in a table of lots that is lent for it, hands out its pieces in another, and leaves the book
-// as it was. Both tables have a row for each record that a history can have.
+// as it was. Both tables have "at least as many rows as the history has records": a short history has short
+// tables, since what is not used would cost more than all that is.
 pub fn put_trace(
     d: Desk,
     inbox: &[u64],
@@ -33,18 +35,70 @@ pub fn put_trace(
 ) -> Stepped
     ensures { λ r. ⌜ repliedOf r (now (inbox .entry)) (now (outbox .entry)) (now (history .entry)) (now (out .exit)) ≡ replied line (page (now (out .entry)) at) (answer (bookOf d (now (inbox .entry)) (now (outbox .entry)) (now (history .entry))) (Call.Trace n)) ⌝ }
 {
-    let mut work = [Lot {
+    if d.records <= 32 {
+        put_short_trace(d, inbox, outbox, history, out, at, line, n)
+    } else {
+        put_long_trace(d, inbox, outbox, history, out, at, line, n)
+    }
+}
+
+// The trace of a history of few records.
+fn put_short_trace(
+    d: Desk,
+    inbox: &[u64],
+    outbox: &[u64],
+    history: &[u64],
+    out: &mut [u8],
+    at: usize,
+    line: u64,
+    n: Nonce,
+) -> Stepped
+    requires { ⌜ d .records ≤ 32 ⌝ }
+    ensures { λ r. ⌜ repliedOf r (now (inbox .entry)) (now (outbox .entry)) (now (history .entry)) (now (out .exit)) ≡ replied line (page (now (out .entry)) at) (answer (bookOf d (now (inbox .entry)) (now (outbox .entry)) (now (history .entry))) (Call.Trace n)) ⌝ }
+{
+    let none = Lot {
         member: 0,
         asset: 0,
         number: DepositNumber(0),
         amount: 0,
-    }; 1024];
-    let mut pieces = [Lot {
+    };
+    let mut work = [none; 32];
+    let mut pieces = [none; 32];
+    put_traced(
+        d,
+        inbox,
+        outbox,
+        history,
+        &mut work,
+        &mut pieces,
+        out,
+        at,
+        line,
+        n,
+    )
+}
+
+// The trace of a history of any length: a row for each record that one can have.
+fn put_long_trace(
+    d: Desk,
+    inbox: &[u64],
+    outbox: &[u64],
+    history: &[u64],
+    out: &mut [u8],
+    at: usize,
+    line: u64,
+    n: Nonce,
+) -> Stepped
+    ensures { λ r. ⌜ repliedOf r (now (inbox .entry)) (now (outbox .entry)) (now (history .entry)) (now (out .exit)) ≡ replied line (page (now (out .entry)) at) (answer (bookOf d (now (inbox .entry)) (now (outbox .entry)) (now (history .entry))) (Call.Trace n)) ⌝ }
+{
+    let none = Lot {
         member: 0,
         asset: 0,
         number: DepositNumber(0),
         amount: 0,
-    }; 1024];
+    };
+    let mut work = [none; 1024];
+    let mut pieces = [none; 1024];
     put_traced(
         d,
         inbox,
@@ -72,7 +126,7 @@ fn put_traced(
     line: u64,
     n: Nonce,
 ) -> Stepped
-    requires { ⌜ HasTables (now work) (now pieces) ⌝ }
+    requires { ⌜ HasTables (d .records) (now work) (now pieces) ⌝ }
     ensures { λ r. ⌜ repliedOf r (now (inbox .entry)) (now (outbox .entry)) (now (history .entry)) (now (out .exit)) ≡ replied line (page (now (out .entry)) at) (answer (bookOf d (now (inbox .entry)) (now (outbox .entry)) (now (history .entry))) (Call.Trace n)) ⌝ }
 {
     let answer = history::trace::trace(d, inbox, outbox, history, work, pieces, n);

@@ -48,7 +48,7 @@ use Rattle.history.specs.Working.{CanReplay, Replays}
 use Rattle.history.proofs.work.Taking as Tk
 use Rattle.history.proofs.work.Taking.Laws as Tk′
 use Rattle.history.proofs.KindNumbers.{is-claim, is-transfer, is-withdrawal, is-grant, is-other}
-use Rattle.history.proofs.Replaying.{few-after, replays-claim, replays-transfer, replays-withdrawal, replays-grant, replays-other}
+use Rattle.history.proofs.Replaying.{can-take, few-after, replays-claim, replays-transfer, replays-withdrawal, replays-grant, replays-other}
 use Rattle.history.proofs.Locals.{local, part, slice-at}
 use Rattle.history.proofs.Values.{R, machOf, number-is, lot-is, Records, machR, at-list, sv, places}
 use Rattle.history.proofs.LotCalls.{PutLot, puts-lot}
@@ -77,9 +77,6 @@ stayed = (stay-slice (0 ∷ []) tt (plain (λ _. T.the-row)), (stay-none (λ _. 
 -- ---- numbers
 one-more : {used : ℕ} → used < 1024 → used + 1 < 2 ^ 64
 one-more l = omega arith
-
-few-used : {used : ℕ} → used < 1024 → used ≤ 1024
-few-used l = omega arith
 
 both-few : (kept taken : ℕ) {used : ℕ} → kept + taken ≤ used + 1 → used < 1024 → kept + taken ≤ 2048
 both-few kept taken l h = omega arith
@@ -158,9 +155,9 @@ module _ {M : Type 1} (𝓤 : URA M) (H : Heap 𝓤) (A : Atoms 𝓤) (W : Given
                 assigns ! (agg ! (and-then ! (local ! 28 refl) (and-then ! (part ! 54 1 refl refl refl) (no-more !)))) (from ! (stop !)) (init ! 26 refl (tt, (tt, (record { fits = roomwork .0 }, tt)))) $
                 assigns ! (slice-at ! 50 refl refl refl) (from ! (stop !)) (init ! 24 refl (tt, tt)) $
                 assigns ! (agg ! (and-then ! (local ! 24 refl) (and-then ! (part ! 50 1 refl refl refl) (no-more !)))) (from ! (stop !)) (init ! 22 refl (tt, (tt, (record { fits = roomheld .0 }, tt)))) $
-                takes-from ! bwork owork nwork works bheld oheld nheld helds used (rec .first) (rec .asset) (rec .amount) mem run 𝓣 known-take refl roomwork refl roomheld isused (of-r .1 .1 .1 .0 .1) (of-r .1 .0 .1) (of-r .1 .1 .0 .1) (few-used (req .few)) (λ ν δ ν′ δ′. (and-then ! (local ! 25 refl) (and-then ! (local ! 51 refl) (and-then ! (local ! 21 refl) (and-then ! (part ! 47 3 refl refl refl) (and-then ! (part ! 47 1 refl refl refl) (and-then ! (part ! 47 2 refl refl refl) (no-more !)))))))) (λ s w′ h′ samew sameh e iss.
+                takes-from ! bwork owork nwork works bheld oheld nheld helds used (rec .first) (rec .asset) (rec .amount) mem run 𝓣 known-take refl roomwork refl roomheld isused (of-r .1 .1 .1 .0 .1) (of-r .1 .0 .1) (of-r .1 .1 .0 .1) (can-take rec used works helds req) (λ ν δ ν′ δ′. (and-then ! (local ! 25 refl) (and-then ! (local ! 51 refl) (and-then ! (local ! 21 refl) (and-then ! (part ! 47 3 refl refl refl) (and-then ! (part ! 47 1 refl refl refl) (and-then ! (part ! 47 2 refl refl refl) (no-more !)))))))) (λ s w′ h′ samew sameh e iss.
                 land ! (from ! (stop !)) (init ! 40 refl (LL.lawful Tk.the-type Tk′.the-laws 𝓤 H A W .typed s _ iss .0)) $
-                let of-s = LL.owed Tk.the-type Tk′.the-laws s _ iss in let few : s .kept + s .taken ≤ used + 1 = few-after rec used works helds req s w′ h′ e in
+                let of-s = LL.owed Tk.the-type Tk′.the-laws s _ iss in let few : s .kept + s .taken ≤ used + 1 = few-after rec used works helds req s w′ h′ samew e in
                 assigns ! (slice-at ! 54 refl refl refl) (from ! (stop !)) (init ! 18 refl (tt, tt)) $
                 assigns ! (agg ! (and-then ! (local ! 18 refl) (and-then ! (part ! 54 1 refl refl refl) (no-more !)))) (from ! (stop !)) (init ! 16 refl (tt, (tt, (record { fits = roomwork .0 }, tt)))) $
                 assigns ! (slice-at ! 50 refl refl refl) (from ! (stop !)) (init ! 14 refl (tt, tt)) $
@@ -179,7 +176,7 @@ module _ {M : Type 1} (𝓤 : URA M) (H : Heap 𝓤) (A : Atoms 𝓤) (W : Given
                 move ! (26 ∷ 27 ∷ []) $ free1 ! $ move ! (24 ∷ 25 ∷ []) $ free1 ! $ move ! (22 ∷ 23 ∷ []) $ free1 ! $ move ! (20 ∷ 21 ∷ []) $ free1 ! $ move ! (18 ∷ 19 ∷ []) $ free1 ! $
                 move ! (16 ∷ 17 ∷ []) $ free1 ! $ move ! (14 ∷ 15 ∷ []) $ free1 ! $ move ! (12 ∷ 13 ∷ []) $ free1 ! $ move ! (10 ∷ 11 ∷ []) $ free1 ! $ move ! (8 ∷ 9 ∷ []) $ free1 ! $
                 move ! (6 ∷ 7 ∷ []) $ free1 ! $ move ! (4 ∷ 5 ∷ []) $ free1 ! $ free0 ! $
-                by ! (exits isused isrec (s .kept + s .taken) (both-fit (s .kept) (s .taken) few (req .few)) w″ (same ∙ samew) h′ sameh (replays-transfer rec used works helds req s w′ h′ e (is-transfer rec two) w″ g))
+                by ! (exits isused isrec (s .kept + s .taken) (both-fit (s .kept) (s .taken) few (req .few)) w″ (same ∙ samew) h′ sameh (replays-transfer rec used works helds req s w′ h′ samew e (is-transfer rec two) w″ g))
                 ))),
             -- a withdrawal's leave
             (
@@ -187,7 +184,7 @@ module _ {M : Type 1} (𝓤 : URA M) (H : Heap 𝓤) (A : Atoms 𝓤) (W : Given
                   assigns ! (agg ! (and-then ! (local ! 10 refl) (and-then ! (part ! 54 1 refl refl refl) (no-more !)))) (from ! (stop !)) (init ! 8 refl (tt, (tt, (record { fits = roomwork .0 }, tt)))) $
                   assigns ! (slice-at ! 50 refl refl refl) (from ! (stop !)) (init ! 6 refl (tt, tt)) $
                   assigns ! (agg ! (and-then ! (local ! 6 refl) (and-then ! (part ! 50 1 refl refl refl) (no-more !)))) (from ! (stop !)) (init ! 4 refl (tt, (tt, (record { fits = roomheld .0 }, tt)))) $
-                  takes-from ! bwork owork nwork works bheld oheld nheld helds used (rec .first) (rec .asset) (rec .amount) mem run 𝓣 known-take refl roomwork refl roomheld isused (of-r .1 .1 .1 .0 .1) (of-r .1 .0 .1) (of-r .1 .1 .0 .1) (few-used (req .few)) (λ ν δ ν′ δ′. (and-then ! (local ! 7 refl) (and-then ! (local ! 51 refl) (and-then ! (local ! 3 refl) (and-then ! (part ! 47 3 refl refl refl) (and-then ! (part ! 47 1 refl refl refl) (and-then ! (part ! 47 2 refl refl refl) (no-more !)))))))) (λ s w′ h′ samew sameh e iss.
+                  takes-from ! bwork owork nwork works bheld oheld nheld helds used (rec .first) (rec .asset) (rec .amount) mem run 𝓣 known-take refl roomwork refl roomheld isused (of-r .1 .1 .1 .0 .1) (of-r .1 .0 .1) (of-r .1 .1 .0 .1) (can-take rec used works helds req) (λ ν δ ν′ δ′. (and-then ! (local ! 7 refl) (and-then ! (local ! 51 refl) (and-then ! (local ! 3 refl) (and-then ! (part ! 47 3 refl refl refl) (and-then ! (part ! 47 1 refl refl refl) (and-then ! (part ! 47 2 refl refl refl) (no-more !)))))))) (λ s w′ h′ samew sameh e iss.
                   land ! (from ! (stop !)) (init ! 38 refl (LL.lawful Tk.the-type Tk′.the-laws 𝓤 H A W .typed s _ iss .0)) $
                   let kept-fits : s .kept < 2 ^ 64 = LL.owed Tk.the-type Tk′.the-laws s _ iss .1 .0 .1 in
                   assigns-last ! (of-opd ! (part ! 38 1 refl refl refl)) (from ! (stop !)) (init ! 36 refl (tt, record { fits = kept-fits })) $
@@ -201,7 +198,7 @@ module _ {M : Type 1} (𝓤 : URA M) (H : Heap 𝓤) (A : Atoms 𝓤) (W : Given
                   move ! (30 ∷ 31 ∷ []) $ free1 ! $ move ! (28 ∷ 29 ∷ []) $ free1 ! $ move ! (26 ∷ 27 ∷ []) $ free1 ! $ move ! (24 ∷ 25 ∷ []) $ free1 ! $ move ! (22 ∷ 23 ∷ []) $ free1 ! $
                   move ! (20 ∷ 21 ∷ []) $ free1 ! $ move ! (18 ∷ 19 ∷ []) $ free1 ! $ move ! (16 ∷ 17 ∷ []) $ free1 ! $ move ! (14 ∷ 15 ∷ []) $ free1 ! $ move ! (12 ∷ 13 ∷ []) $ free1 ! $
                   move ! (10 ∷ 11 ∷ []) $ free1 ! $ move ! (8 ∷ 9 ∷ []) $ free1 ! $ move ! (6 ∷ 7 ∷ []) $ free1 ! $ move ! (4 ∷ 5 ∷ []) $ free1 ! $ free0 ! $
-                  by ! (exits isused isrec (s .kept) (kept-fits) w′ samew h′ sameh (replays-withdrawal rec used works helds req s w′ h′ e (is-withdrawal rec three) w′ refl)))),
+                  by ! (exits isused isrec (s .kept) (kept-fits) w′ samew h′ sameh (replays-withdrawal rec used works helds req s w′ h′ samew e (is-withdrawal rec three) w′ refl)))),
               -- a grant moves none
               (
                 (λ four. assigns-last ! (of-opd ! (local ! 52 refl)) (from ! (stop !)) (init ! 36 refl (tt, record { fits = isused })) $

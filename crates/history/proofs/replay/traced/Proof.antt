@@ -42,7 +42,7 @@ use Rattle.rules.proofs.rows.Record.Laws as Rc′
 use Rattle.history.specs.Tracing.{CanTrace, Traces}
 use Rattle.history.proofs.work.Taking as Tk
 use Rattle.history.proofs.work.Taking.Laws as Tk′
-use Rattle.history.proofs.Traced.{can-replay-all, record-there, few-used, pieces-fit, traces}
+use Rattle.history.proofs.Traced.{can-replay-all, record-there, can-take-here, pieces-fit, traces}
 use Rattle.history.proofs.Locals.{local, part, slice-at}
 use Rattle.history.proofs.Values.{R, at-list, sv}
 use Rattle.history.proofs.TakingCalls.{TakeFrom, takes-from, Join, joins, Clear, clears}
@@ -139,7 +139,7 @@ module _ {M : Type 1} (𝓤 : URA M) (H : Heap 𝓤) (A : Atoms 𝓤) (W : Given
         assigns ! (slice-at ! 48 refl refl refl) (from ! (stop !)) (init ! 24 refl (tt, tt)) $
         assigns ! (agg ! (and-then ! (local ! 24 refl) (and-then ! (part ! 48 1 refl refl refl) (no-more !)))) (from ! (stop !)) (init ! 22 refl (tt, (tt, (record { fits = roomheld .0 }, tt)))) $
         move ! (2 ∷ 3 ∷ 4 ∷ 5 ∷ []) $
-        takes-from ! bwork owork nwork w₁ bheld oheld nheld h₁ used (rec .first) (rec .asset) (rec .amount) mem run 𝓣 known-take wide roomwork long roomheld isused (of-r .1 .1 .1 .0 .1) (of-r .1 .0 .1) (of-r .1 .1 .0 .1) (few-used hists records n works helds outs req place found used w₁ h₁ wide long all) (λ ν δ ν′ δ′. (and-then ! (local ! 25 refl) (and-then ! (local ! 41 refl) (and-then ! (local ! 21 refl) (and-then ! (part ! 39 3 refl refl refl) (and-then ! (part ! 39 1 refl refl refl) (and-then ! (part ! 39 2 refl refl refl) (no-more !)))))))) (λ s w₂ h₂ samew sameh p iss.
+        takes-from ! bwork owork nwork w₁ bheld oheld nheld h₁ used (rec .first) (rec .asset) (rec .amount) mem run 𝓣 known-take wide roomwork long roomheld isused (of-r .1 .1 .1 .0 .1) (of-r .1 .0 .1) (of-r .1 .1 .0 .1) (can-take-here hists records n works helds outs req place found used w₁ h₁ wide long all) (λ ν δ ν′ δ′. (and-then ! (local ! 25 refl) (and-then ! (local ! 41 refl) (and-then ! (local ! 21 refl) (and-then ! (part ! 39 3 refl refl refl) (and-then ! (part ! 39 1 refl refl refl) (and-then ! (part ! 39 2 refl refl refl) (no-more !)))))))) (λ s w₂ h₂ samew sameh p iss.
         land ! (from ! (stop !)) (init ! 38 refl (LL.lawful Tk.the-type Tk′.the-laws 𝓤 H A W .typed s _ iss .0)) $
         let taken-fits : s .taken < 2 ^ 64 = LL.owed Tk.the-type Tk′.the-laws s _ iss .1 .1 .0 .1 in
         -- the pieces are handed out, and the work table cleared
