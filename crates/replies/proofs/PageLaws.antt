@@ -84,6 +84,16 @@ length-short n h = rw (decimal-short n h)
 pub length-long : (n : ℕ) → 10 ≤ n → n ≤ highestField → length (decimal n) ≡ length (decimal (n / 10)) + 1
 length-long n h l = rw (decimal-long n h l, length-append)
 
+pub length-two : (n : ℕ) → 10 ≤ n → n < 100 → length (decimal n) ≡ 2
+length-two n h l = length-long n h (omega arith) ∙ rw (length-short (n / 10) (omega arith))
+
+pub length-pair : (n : ℕ) → 100 ≤ n → n ≤ highestField → length (decimal n) ≡ length (decimal (n / 100)) + 2
+length-pair n h l =
+    let e : n / 10 / 10 ≡ n / 100 = omega arith in
+    let a : length (decimal n) ≡ length (decimal (n / 10)) + 1 = length-long n (omega arith) l in
+    let b : length (decimal (n / 10)) ≡ length (decimal (n / 100)) + 1 = rw e at (length-long (n / 10) (omega arith) (omega arith)) in
+    omega arith
+
 pub length-most : (n : ℕ) → n ≤ highestField → length (decimal n) ≤ 20
 length-most n h = decimal-spells n h .short
 

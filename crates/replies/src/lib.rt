@@ -56,15 +56,18 @@ pub fn put_decimal(out: &mut [u8], at: usize, n: u64) -> usize
     put_bytes(out, at, &text[..k])
 }
 
-// How many digits a number has.
+// How many digits a number has, counted in pairs.
 fn places(n: u64) -> usize
     ensures { λ r. ⌜ r ≡ length (decimal n) ⌝ }
 {
     let mut k: usize = 1;
     let mut rest = n;
-    while 10 <= rest {
-        rest = rest / 10;
-        k += 1;
+    while 100 <= rest {
+        rest = rest / 100;
+        k += 2;
+    }
+    if 10 <= rest {
+        return k + 1;
     }
     k
 }

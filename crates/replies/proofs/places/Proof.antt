@@ -4,7 +4,7 @@ use mathlib.Core.Path.{_≡_}
 use native.Mathlib.Omega.{arith}
 use lib.ListN.{length}
 use Rattle.rules.specs.Lines.{decimal}
-use Rattle.replies.proofs.PageLaws.{length-short, length-long, length-most}
+use Rattle.replies.proofs.PageLaws.{length-short, length-two, length-pair, length-most}
 use borrow.Author.Needs.{needs}
 use Rattle.replies.proofs.places.Statement.{statement}
 use Rattle.replies.proofs.places.Tie as tie
@@ -19,21 +19,26 @@ loop-holds : tie.Need-loop-holds Inv-loop μ-loop
 loop-holds c = (search needs, search needs)
 
 add-k : tie.Need-add-k Inv-loop μ-loop
-add-k c =
-    let a = c .before .before .args in
-    omega (arith, length-most (a .n) (omega (arith, c .before .before .fits .n)))
+add-k c = omega (arith, length-most (c .before .before .args .n) (omega (arith, c .before .before .fits .n)))
 
 loop-less : tie.Need-loop-less Inv-loop μ-loop
 loop-less c = search needs
 
 loop-again : tie.Need-loop-again Inv-loop μ-loop
 loop-again c =
-    let l = c .before .loop in
-    let d = length-long (l .rest) (c .loop-test .taken) (omega (arith, c .before .before .fits .n)) in
+    let d = length-pair (c .before .loop .rest) (c .loop-test .taken) (omega (arith, c .before .before .fits .n)) in
     (search needs, omega arith)
 
+add-result : tie.Need-add-result Inv-loop μ-loop
+add-result c = omega (arith, length-most (c .before .before .before .args .n) (omega (arith, c .before .before .before .fits .n)))
+
 returns : tie.Need-returns Inv-loop μ-loop
-returns c = omega (arith, length-short (c .before .loop .rest) (omega (arith, c .loop-test .left)))
+returns c = omega (arith, length-two (c .before .before .loop .rest) (c .if1 .taken) (omega (arith, c .before .loop-test .left)))
+
+returns-2 : tie.Need-returns-2 Inv-loop μ-loop
+returns-2 c = omega (arith, length-short (c .before .before .loop .rest) (omega (arith, c .if1 .left)))
 
 pub places-spec : {M : Type 1} → statement M
-places-spec = tie.close (tie.spec Inv-loop μ-loop loop-holds add-k loop-less loop-again returns)
+places-spec =
+    tie.close
+    (tie.spec Inv-loop μ-loop loop-holds add-k loop-less loop-again add-result returns returns-2)
