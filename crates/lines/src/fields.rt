@@ -74,8 +74,8 @@ fn digits(s: &[u8]) -> ReadField
     ReadField::Number(v, i)
 }
 
-// One digit more, tested before the value is made, so that nothing wraps. Below a tenth of the highest
-// field there is room for any digit.
+// One digit more, tested before the value is made, so that nothing wraps: a tenth of
+// 18,446,744,073,709,551,615 may be followed by digits up to 5, what is below it by any.
 fn one_more(v: u64, b: u8) -> Field
     ensures { λ r. ⌜ r ≡ oneMore v b ⌝ }
 {
@@ -89,10 +89,13 @@ fn one_more(v: u64, b: u8) -> Field
     if v < 1_844_674_407_370_955_161 {
         return Field::Number(v * 10 + d);
     }
-    if (18_446_744_073_709_551_615 - d) / 10 < v {
+    if 1_844_674_407_370_955_161 < v {
         return Field::NotANumber;
     }
-    Field::Number(v * 10 + d)
+    if 5 < d {
+        return Field::NotANumber;
+    }
+    Field::Number(18_446_744_073_709_551_610 + d)
 }
 
 // "1 to 20 decimal digits, no sign, no leading zero except `0` itself", of a field that has nothing but

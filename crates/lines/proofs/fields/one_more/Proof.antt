@@ -1,4 +1,5 @@
--- `fields::one_more`: the test before the product is the test after it.
+-- `fields::one_more`: the tests before the product are the test after it.
+use mathlib.Core.Path.{_≡_}
 use mathlib.Core.Bool.{and-false}
 use Prim.Native.Nat.{_+_, _-_, _*_}
 use native.Mathlib.Omega.{arith}
@@ -32,27 +33,39 @@ returns-3 c =
     let a = c .before .before .before .args in
     rw (le-leb 48 (a .b) (c .before .before .if1 .left), le-leb (a .b) 57 (c .before .if2 .left), le-leb (a .v * 10 + (a .b - 48)) highestField (omega arith))
 
-sub-if4 : tie.Need-sub-if4
-sub-if4 c = search needs
-
 returns-4 : tie.Need-returns-4
 unfolding oneMore
 returns-4 c =
     let a = c .before .before .before .before .args in
     rw (lt-leb (a .v * 10 + (a .b - 48)) highestField (omega arith), and-false)
 
-mul-t8 : tie.Need-mul-t8
-mul-t8 c = search needs
-
-add-t9 : tie.Need-add-t9
-add-t9 c = search needs
-
 returns-5 : tie.Need-returns-5
 unfolding oneMore
 returns-5 c =
-    let a = c .before .before .before .before .args in
-    rw (le-leb 48 (a .b) (c .before .before .before .if1 .left), le-leb (a .b) 57 (c .before .before .if2 .left), le-leb (a .v * 10 + (a .b - 48)) highestField (omega arith))
+    let a = c .before .before .before .before .before .args in
+    rw (lt-leb (a .v * 10 + (a .b - 48)) highestField (omega arith), and-false)
+
+add-t8 : tie.Need-add-t8
+add-t8 c = search needs
+
+returns-6 : tie.Need-returns-6
+unfolding oneMore
+returns-6 c =
+    let a = c .before .before .before .before .before .args in
+    let e : 18446744073709551610 + (a .b - 48) ≡ a .v * 10 + (a .b - 48) = omega arith in
+    rw (e, le-leb 48 (a .b) (c .before .before .before .before .if1 .left), le-leb (a .b) 57 (c .before .before .before .if2 .left), le-leb (a .v * 10 + (a .b - 48)) highestField (omega arith))
 
 pub one-more-spec : {M : Type 1} → statement M
 one-more-spec =
-    tie.close (tie.spec returns returns-2 cast-d mul-t6 add-t7 returns-3 sub-if4 returns-4 mul-t8 add-t9 returns-5)
+    tie.close
+    (tie.spec
+    returns
+    returns-2
+    cast-d
+    mul-t6
+    add-t7
+    returns-3
+    returns-4
+    returns-5
+    add-t8
+    returns-6)
