@@ -1,19 +1,20 @@
 -- The loops of the field reader: what is left after i bytes, one byte more, and the end.
 use Prim.Native.Nat.{ℕ, suc, _+_, _-_, _*_, _≤_, _<_}
-use mathlib.Core.Path.{_≡_, refl, sym, _∙_}
-use mathlib.Core.Bool.{Bool, true, false, cond, and-false, and-true}
+use mathlib.Core.Path.{_≡_, refl, sym, ap, _∙_}
+use mathlib.Core.Bool.{Bool, true, false, not, _&&_, cond, and-false, and-true}
 use mathlib.Core.List.{List, [], _∷_}
 use native.Mathlib.Numerals.{add-one}
 use native.Mathlib.Omega.{arith}
 use lib.Dec.{leb, eqb}
-use lib.ListN.{length, getD, take, drop, drop-of-length-le}
+use lib.ListN.{length, getD, take, drop, length-drop, drop-of-length-le}
 use lib.Seq.{drop-cons, take-all}
 use borrow.Author.Tests.{eq-eqb, ne-eqb, le-ltb, lt-ltb, le-leb, lt-leb, leb-false}
 use Rattle.rules.specs.declared.calls.Field.{Field}
 use Rattle.rules.specs.Limits.{highestField}
 use Rattle.rules.specs.Lists.{all, indexOf}
 use Rattle.rules.specs.Lines.{tab, fieldEnd, firstField, afterField, isDigit, valueAfter, leadingZero, readsAsNumber, number}
-use Rattle.lines.specs.Reading.{oneMore, digitsAfter, nextField, afterNext, taken}
+use Rattle.lines.specs.declared.fields.ReadField.{ReadField}
+use Rattle.lines.specs.Reading.{oneMore, digitsAfter, isShaped, nextField, afterNext, placed, nextEnd, nextRead, digitsRead, taken}
 
 -- ---- where the field ends
 module _ (s : List ℕ) (i : ℕ) where
@@ -62,60 +63,107 @@ more v b f = go (isDigit b) refl (leb (v * 10 + (b - 48)) highestField) refl
         rw (d, e, lt-leb (valueAfter (v * 10 + (b - 48)) f) highestField big, and-false)
     go true d true e = rw (d, e)
 
-module _ (f : List ℕ) (v i : ℕ) where
-  digits-go : i < length f → digitsAfter v (drop i f) ≡ taken Field.NotANumber (λ n. digitsAfter n (drop (i + 1) f)) (oneMore v (getD f i 0))
-  digits-go h = rw (add-one i, drop-cons f i 0 h) (more v (getD f i 0) (drop (suc i) f))
+-- what is read from place i on, after the value so far: the number, and the field's end
+unfoldable pub readFrom : List ℕ → ℕ → ℕ → ReadField
+readFrom s v i = placed (i + fieldEnd (drop i s)) (digitsAfter v (firstField (drop i s)))
 
-  pub digits-not : i < length f → oneMore v (getD f i 0) ≡ Field.NotANumber → digitsAfter v (drop i f) ≡ Field.NotANumber
-  unfolding taken
-  digits-not h e = digits-go h ∙ rw e
+pub from-first : (s : List ℕ) → digitsRead s ≡ readFrom s 0 1
+unfolding digitsRead nextEnd readFrom
+from-first s = refl
 
-  pub digits-more : {n : ℕ} → i < length f → oneMore v (getD f i 0) ≡ Field.Number n → digitsAfter v (drop i f) ≡ digitsAfter n (drop (i + 1) f)
-  unfolding taken
-  digits-more h e = digits-go h ∙ rw e
+module _ (s : List ℕ) (v i : ℕ) where
+  -- the field ends here
+  pub from-end : fieldEnd (drop i s) ≡ 0 → v ≤ highestField → readFrom s v i ≡ ReadField.Number v i
+  unfolding readFrom placed digitsAfter all valueAfter
+  from-end e l = rw (e, le-leb v highestField l) (ap (ReadField.Number v) (omega arith))
 
-  pub digits-end : length f ≤ i → v ≤ highestField → digitsAfter v (drop i f) ≡ Field.Number v
-  unfolding digitsAfter all valueAfter
-  digits-end h l = rw (drop-of-length-le f h, le-leb v highestField l)
+  -- or it has this byte and those after it
+  from-later : i < length s → (getD s i 0 ≡ tab → ⊥)
+      → readFrom s v i ≡ placed (i + 1 + fieldEnd (drop (i + 1) s)) (taken Field.NotANumber (λ n. digitsAfter n (firstField (drop (i + 1) s))) (oneMore v (getD s i 0)))
+  unfolding readFrom
+  from-later h e =
+      let k = fieldEnd (drop (i + 1) s) in
+      let p : i + suc k ≡ i + 1 + k = omega arith in
+      rw (end-later s i h e, p)
+      (ap (placed (i + 1 + k)) (rw (drop-cons s i 0 h, ← add-one i) (more v (getD s i 0) (take k (drop (i + 1) s)))))
 
--- ---- the number of a field, test by test
-module _ (f : List ℕ) where
-  pub number-empty : length f ≡ 0 → number f ≡ Field.NotANumber
-  unfolding number readsAsNumber
-  number-empty h = rw (lt-leb 1 (length f) (omega arith))
+  pub from-not : i < length s → (getD s i 0 ≡ tab → ⊥) → oneMore v (getD s i 0) ≡ Field.NotANumber → readFrom s v i ≡ ReadField.NotANumber
+  unfolding taken placed
+  from-not h e q = from-later h e ∙ rw q
 
-  pub number-long : 20 < length f → number f ≡ Field.NotANumber
-  unfolding number readsAsNumber
-  number-long h = rw (lt-leb (length f) 20 h, and-false)
+  pub from-more : {n : ℕ} → i < length s → (getD s i 0 ≡ tab → ⊥) → oneMore v (getD s i 0) ≡ Field.Number n → readFrom s v i ≡ readFrom s n (i + 1)
+  unfolding taken readFrom
+  from-more h e q = from-later h e ∙ rw q
 
-  pub number-led : (1 ≤ length f) → (length f ≤ 20) → leadingZero f ≡ true → number f ≡ Field.NotANumber
-  unfolding number readsAsNumber
-  number-led a b h = rw (le-leb 1 (length f) a, le-leb (length f) 20 b, h, and-false)
+-- ---- the number of a field: its shape and its digits
+number-shaped : (f : List ℕ) → number f ≡ cond (isShaped f) (digitsAfter 0 f) Field.NotANumber
+unfolding number readsAsNumber isShaped digitsAfter
+number-shaped f = go (leb 1 (length f)) (leb (length f) 20) (all isDigit f) (leadingZero f) (leb (valueAfter 0 f) highestField)
+  where
+    go : (a b d z l : Bool)
+        → cond (a && b && (d && (not z && l))) (Field.Number (valueAfter 0 f)) Field.NotANumber
+        ≡ cond (a && b && not z) (cond (d && l) (Field.Number (valueAfter 0 f)) Field.NotANumber) Field.NotANumber
+    go false b d z l = refl
+    go true false d z l = refl
+    go true true false true l = refl
+    go true true false false l = refl
+    go true true true true l = refl
+    go true true true false l = refl
 
-  pub number-digits : (1 ≤ length f) → (length f ≤ 20) → leadingZero f ≡ false → number f ≡ digitsAfter 0 f
-  unfolding number readsAsNumber digitsAfter
-  number-digits a b h = rw (le-leb 1 (length f) a, le-leb (length f) 20 b, h)
+placed-cond : (t : Bool) (end : ℕ) (f : Field) → placed end (cond t f Field.NotANumber) ≡ cond t (placed end f) ReadField.NotANumber
+unfolding placed
+placed-cond true end f = refl
+placed-cond false end f = refl
 
 -- ---- the field after a tab
-pub next-none : (s : List ℕ) → length s ≡ 0 → nextField s ≡ Field.NotANumber
-unfolding nextField
+pub next-none : (s : List ℕ) → length s ≡ 0 → nextRead s ≡ ReadField.NotANumber
+unfolding nextRead nextField placed
 next-none [] h = refl
 next-none (t ∷ rest) h = absurd (omega arith)
 
-pub next-some : (s : List ℕ) → 1 ≤ length s → nextField s ≡ number (firstField (drop 1 s))
-unfolding nextField
-next-some [] h = absurd (omega arith)
-next-some (t ∷ rest) h = refl
+next-shaped : (s : List ℕ) → 1 ≤ length s → nextRead s ≡ cond (isShaped (firstField (drop 1 s))) (digitsRead s) ReadField.NotANumber
+unfolding nextRead nextField digitsRead
+next-shaped [] h = absurd (omega arith)
+next-shaped (t ∷ rest) h =
+    ap (placed (nextEnd (t ∷ rest))) (number-shaped (firstField rest))
+    ∙ placed-cond (isShaped (firstField rest)) (nextEnd (t ∷ rest)) (digitsAfter 0 (firstField rest))
 
-pub after-none : (s : List ℕ) → length s ≡ 0 → afterNext s ≡ s
-unfolding afterNext
-after-none [] h = refl
-after-none (t ∷ rest) h = absurd (omega arith)
+module _ (s : List ℕ) (h : 1 ≤ length s) where
+  pub next-not : digitsRead s ≡ ReadField.NotANumber → nextRead s ≡ ReadField.NotANumber
+  next-not e = next-shaped s h ∙ rw e (go (isShaped (firstField (drop 1 s))))
+    where
+      go : (t : Bool) → cond t ReadField.NotANumber ReadField.NotANumber ≡ ReadField.NotANumber
+      go true = refl
+      go false = refl
 
-pub after-some : (s : List ℕ) → 1 ≤ length s → afterNext s ≡ afterField (drop 1 s)
-unfolding afterNext
-after-some [] h = absurd (omega arith)
-after-some (t ∷ rest) h = refl
+  pub next-misshaped : isShaped (firstField (drop 1 s)) ≡ false → nextRead s ≡ ReadField.NotANumber
+  next-misshaped e = next-shaped s h ∙ rw e
+
+  pub next-read : isShaped (firstField (drop 1 s)) ≡ true → nextRead s ≡ digitsRead s
+  next-read e = next-shaped s h ∙ rw e
+
+-- the end that is read is the field's
+endOf : ℕ → ReadField → ℕ
+endOf other (ReadField.Number n end) = end
+endOf other ReadField.NotANumber = other
+
+placed-end : (end : ℕ) (f : Field) → endOf end (placed end f) ≡ end
+unfolding endOf placed
+placed-end end (Field.Number n) = refl
+placed-end end Field.NotANumber = refl
+
+pub end-read : (s : List ℕ) {n end : ℕ} → digitsRead s ≡ ReadField.Number n end → end ≡ 1 + fieldEnd (drop 1 s)
+unfolding digitsRead nextEnd endOf
+end-read s e = sym (ap (endOf (nextEnd s)) e) ∙ placed-end (nextEnd s) (digitsAfter 0 (firstField (drop 1 s)))
+
+pub part-read : (s : List ℕ) {n end : ℕ} → digitsRead s ≡ ReadField.Number n end → take (end - 1) (drop 1 s) ≡ firstField (drop 1 s)
+part-read s {end} e =
+    let h : end ≡ 1 + fieldEnd (drop 1 s) = end-read s e in
+    let k : end - 1 ≡ fieldEnd (drop 1 s) = omega arith in
+    rw k
+
+pub end-bound : (s : List ℕ) → 1 ≤ length s → 1 + fieldEnd (drop 1 s) ≤ length s
+end-bound s h = let l : length (drop 1 s) ≡ length s - 1 = length-drop 1 s in omega (arith, end-within (drop 1 s))
 
 -- ---- a leading zero wants two bytes
 module _ (f : List ℕ) where

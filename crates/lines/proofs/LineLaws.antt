@@ -6,13 +6,13 @@ use mathlib.Core.List.{List, [], _∷_}
 use native.Mathlib.Numerals.{add-one}
 use native.Mathlib.Omega.{arith}
 use lib.Dec.{eqb, eqb·zero-suc, eqb·suc-zero, eqb·suc-suc}
-use lib.ListN.{length, getD, drop, drop-of-length-le}
+use lib.ListN.{length, getD, take, drop, drop-of-length-le}
 use lib.Seq.{drop-cons}
 use borrow.Author.Tests.{le-leb, lt-leb, eqb-true}
 use Rattle.rules.specs.declared.calls.Field.{Field}
 use Rattle.rules.specs.declared.calls.Line.{Line}
 use Rattle.rules.specs.Lists.{same, any, bytes}
-use Rattle.rules.specs.Lines.{firstField, afterField, number, Numbers, andRead, numbers, Form, depositForm, claimForm, transferForm, withdrawForm, sendForm, settleForm, grantForm, signForm, traceForm, forms, formed, formedOf, readFields, readLine}
+use Rattle.rules.specs.Lines.{fieldEnd, firstField, afterField, number, Numbers, andRead, numbers, Form, depositForm, claimForm, transferForm, withdrawForm, sendForm, settleForm, grantForm, signForm, traceForm, forms, formed, formedOf, readFields, readLine}
 use Rattle.rules.proofs.ReadBack.{fieldsAfter, fields-first}
 use Rattle.lines.proofs.TakingLaws.{taken-ap}
 use Rattle.lines.specs.Reading.{nextField, afterNext, taken, taking, readsAs}
@@ -99,28 +99,30 @@ module _ (s : List ℕ) where
   unfolding readLine readFields
   parts h = rw (le-leb (length s) 120 h, fields-first s)
 
-  -- its first field is the word of a form that no other form has: that form's function reads the rest
-  pub line-form : (f : Form) → Alone f → {r : Line} {rest : List ℕ} {t : Bool} → length s ≤ 120 → t ≡ same (f .word) (firstField s) → t ≡ true
-      → rest ≡ afterField s → r ≡ readsAs f rest → r ≡ readLine s
-  unfolding formedOf readsAs counted
-  line-form f a {r} h e t p q =
-      let w : f .word ≡ firstField s = same-eq (f .word) (firstField s) (sym e ∙ t) in
-      q
-      ∙ ap (readsAs f) p
-      ∙ sym (parts h ∙ rw (← w) (go (numbers (fieldsAfter (afterField s)))) ∙ counted-taking (f .count) Line.Malformed (λ ns. Line.Reads (f .call ns)) (afterField s))
-    where
-      go : (ns : Numbers) → formedOf (f .word) ns ≡ counted (f .count) Line.Malformed (λ ms. Line.Reads (f .call ms)) ns
-      go (Numbers.allRead ns) = a ns
-      go Numbers.oneNot = refl
+  -- what the code has of a line: the end of its first field
+  module _ {end : ℕ} (h : length s ≤ 120) (where-it-ends : end ≡ fieldEnd s) where
+    -- the first field is the word of a form that no other form has: that form's function reads the rest
+    pub line-form : (f : Form) → Alone f → {r : Line} {rest : List ℕ} {t : Bool} → t ≡ same (f .word) (take end s) → t ≡ true
+        → rest ≡ drop end s → r ≡ readsAs f rest → r ≡ readLine s
+    unfolding formedOf readsAs counted
+    line-form f a {r} e t p q =
+        let w : f .word ≡ firstField s = same-eq (f .word) (firstField s) (sym (rw where-it-ends at e) ∙ t) in
+        q
+        ∙ ap (readsAs f) (rw where-it-ends at p)
+        ∙ sym (parts h ∙ rw (← w) (go (numbers (fieldsAfter (afterField s)))) ∙ counted-taking (f .count) Line.Malformed (λ ns. Line.Reads (f .call ns)) (afterField s))
+      where
+        go : (ns : Numbers) → formedOf (f .word) ns ≡ counted (f .count) Line.Malformed (λ ms. Line.Reads (f .call ms)) ns
+        go (Numbers.allRead ns) = a ns
+        go Numbers.oneNot = refl
 
-  -- it is the word of none
-  pub line-none : length s ≤ 120 → any (λ f. same (f .word) (firstField s)) forms ≡ false → readLine s ≡ Line.Malformed
-  unfolding formedOf
-  line-none h e = parts h ∙ go (numbers (fieldsAfter (afterField s)))
-    where
-      go : (ns : Numbers) → formedOf (firstField s) ns ≡ Line.Malformed
-      go (Numbers.allRead ns) = formed-none (firstField s) ns forms e
-      go Numbers.oneNot = refl
+    -- it is the word of none
+    pub line-none : any (λ f. same (f .word) (take end s)) forms ≡ false → readLine s ≡ Line.Malformed
+    unfolding formedOf
+    line-none e = parts h ∙ go (numbers (fieldsAfter (afterField s)))
+      where
+        go : (ns : Numbers) → formedOf (firstField s) ns ≡ Line.Malformed
+        go (Numbers.allRead ns) = formed-none (firstField s) ns forms (rw where-it-ends at e)
+        go Numbers.oneNot = refl
 
 -- each of the nine words is one form's
 pub deposit-alone : Alone depositForm

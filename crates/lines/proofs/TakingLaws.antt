@@ -3,26 +3,51 @@ use Prim.Native.Nat.{ℕ, zero, suc, _≤_, _<_}
 use mathlib.Core.Path.{_≡_, refl, sym, ap, fun-ext, _∙_}
 use mathlib.Core.List.{List, [], _∷_}
 use native.Mathlib.Omega.{arith}
-use lib.ListN.{length}
+use lib.ListN.{length, drop}
+use lib.Seq.{drop-nil, drop-drop}
 use Rattle.rules.specs.declared.calls.Field.{Field}
-use Rattle.rules.specs.Lines.{at}
+use Rattle.rules.specs.Lines.{fieldEnd, at}
 use Rattle.lines.specs.declared.read.Four.{Four}
 use Rattle.lines.specs.declared.read.Numbers.{Numbers}
-use Rattle.lines.specs.Reading.{nextField, afterNext, taken, taking, lastField}
+use Rattle.lines.specs.declared.fields.ReadField.{ReadField}
+use Rattle.lines.specs.Reading.{nextField, afterNext, placed, nextEnd, nextRead, taken, taking, lastField}
 use Rattle.lines.specs.Fours.{four, fourOf}
+
+-- the part after the field that follows, by the place of its end
+after-end : (s : List ℕ) → afterNext s ≡ drop (nextEnd s) s
+unfolding afterNext nextEnd
+after-end [] = sym (drop-nil (nextEnd []))
+after-end (t ∷ rest) = drop-drop (fieldEnd rest) 1 (t ∷ rest)
 
 module _ {A : Type 0} where
   -- ---- step by step
+  -- what the number that is read makes, and the place where its field ends
+  found : A → (ℕ → ℕ → A) → ReadField → A
+  found not made (ReadField.Number n end) = made n end
+  found not made ReadField.NotANumber = not
+
+  found-taken : (not : A) (made : ℕ → ℕ → A) (s : List ℕ) → found not made (nextRead s) ≡ taken not (λ n. made n (nextEnd s)) (nextField s)
+  unfolding found nextRead placed taken
+  found-taken not made s = go (nextField s)
+    where
+      go : (f : Field) → found not made (placed (nextEnd s) f) ≡ taken not (λ n. made n (nextEnd s)) f
+      go (Field.Number n) = refl
+      go Field.NotANumber = refl
+
+  take-found : (k : ℕ) (not : A) (made : List ℕ → A) (s : List ℕ) → taking (suc k) not made s ≡ found not (λ n end. taking k not (λ ns. made (n ∷ ns)) (drop end s)) (nextRead s)
+  unfolding taking
+  take-found k not made s = rw (after-end s) (sym (found-taken not (λ n end. taking k not (λ ns. made (n ∷ ns)) (drop end s)) s))
+
   -- the next field is no number
-  pub take-not : (k : ℕ) (not : A) (made : List ℕ → A) (s : List ℕ) → nextField s ≡ Field.NotANumber → taking (suc k) not made s ≡ not
-  unfolding taking taken
-  take-not k not made s e = rw e
+  pub take-not : (k : ℕ) (not : A) (made : List ℕ → A) (s : List ℕ) → nextRead s ≡ ReadField.NotANumber → taking (suc k) not made s ≡ not
+  unfolding found
+  take-not k not made s e = take-found k not made s ∙ rw e
 
   -- it is one, and the others stand in the part that is handed back
-  pub take-one : (k : ℕ) (not : A) (made : List ℕ → A) (s : List ℕ) {t : List ℕ} {n : ℕ} {x : A} → nextField s ≡ Field.Number n → t ≡ afterNext s
+  pub take-one : (k : ℕ) (not : A) (made : List ℕ → A) (s : List ℕ) {t : List ℕ} {n end : ℕ} {x : A} → nextRead s ≡ ReadField.Number n end → t ≡ drop end s
       → taking k not (λ ns. made (n ∷ ns)) t ≡ x → taking (suc k) not made s ≡ x
-  unfolding taking taken
-  take-one k not made s e a r = rw (e, ← a) r
+  unfolding found
+  take-one k not made s e a r = take-found k not made s ∙ rw (e, ← a) r
 
   -- something comes after the last, or nothing does
   pub take-more : (not : A) (made : List ℕ → A) (s : List ℕ) → 0 < length s → taking 0 not made s ≡ not

@@ -1,9 +1,16 @@
 // The field reader. Fields are parted by one tab; each is a number or the line is refused.
 use rules::calls::Field;
 ghost use mathlib.Core.Path.{_≡_};
-ghost use Rattle.rules.specs.Lines.{fieldEnd, firstField, afterField, leadingZero};
-ghost use Rattle.rules.specs.Lines.{number as Lines·number};
-ghost use Rattle.lines.specs.Reading.{oneMore, digitsAfter, nextField, afterNext};
+ghost use lib.ListN.{drop};
+ghost use Rattle.rules.specs.Lines.{fieldEnd, leadingZero};
+ghost use Rattle.lines.specs.Reading.{oneMore, isShaped, digitsRead, nextRead};
+
+// What the field reader answers: the field's number and where the part after the field begins, or that it
+// is no number.
+pub enum ReadField {
+    Number(u64, usize),
+    NotANumber,
+}
 
 // Where the first field ends: at the first tab, or at the end of the line.
 pub fn field_end(s: &[u8]) -> usize
@@ -19,50 +26,56 @@ pub fn field_end(s: &[u8]) -> usize
     i
 }
 
-// "1 to 20 decimal digits, no sign, no leading zero except `0` itself, at most
-// 18,446,744,073,709,551,615".
-pub fn number(f: &[u8]) -> Field
-    ensures { λ r. ⌜ r ≡ Lines·number (now (f .entry)) ⌝ }
+// "The field reader hands back the part of the line after the field", from the field's end on: it begins
+// with the next field's tab, and is empty where the line ends.
+pub fn after_field(s: &[u8], end: usize) -> &[u8]
+    ensures { λ r. ⌜ now r ≡ drop end (now (s .entry)) ⌝ }
 {
-    if f.len() == 0 {
-        return Field::NotANumber;
+    if s.len() < end {
+        return &s[s.len()..];
     }
-    if 20 < f.len() {
-        return Field::NotANumber;
-    }
-    if is_led(f) {
-        return Field::NotANumber;
-    }
-    digits(f)
+    &s[end..]
 }
 
-// A leading zero: a first digit 0 with another after it.
-fn is_led(f: &[u8]) -> bool
-    ensures { λ r. ⌜ r ≡ leadingZero (now (f .entry)) ⌝ }
+// The number of the field that follows in a part that was handed back: one pass from its tab, which is
+// passed over, to the field's end.
+pub fn next_field(s: &[u8]) -> ReadField
+    ensures { λ r. ⌜ r ≡ nextRead (now (s .entry)) ⌝ }
 {
-    if f.len() < 2 {
-        return false;
+    if s.len() == 0 {
+        return ReadField::NotANumber;
     }
-    f[0] == 48
+    let ReadField::Number(n, end) = digits(s) else {
+        return ReadField::NotANumber;
+    };
+    if is_shaped(&s[1..end]) {
+        return ReadField::Number(n, end);
+    }
+    ReadField::NotANumber
 }
 
-// The value of the digits; another byte among them, or a value that no field can hold, and there is none.
-fn digits(f: &[u8]) -> Field
-    ensures { λ r. ⌜ r ≡ digitsAfter 0 (now (f .entry)) ⌝ }
+// The value of the digits after a tab, up to the next tab or the end of the line; another byte among them,
+// or a value that no field can hold, and there is none.
+fn digits(s: &[u8]) -> ReadField
+    ensures { λ r. ⌜ r ≡ digitsRead (now (s .entry)) ⌝ }
 {
     let mut v: u64 = 0;
-    let mut i: usize = 0;
-    while i < f.len() {
-        let Field::Number(n) = one_more(v, f[i]) else {
-            return Field::NotANumber;
+    let mut i: usize = 1;
+    while i < s.len() {
+        if s[i] == 9 {
+            return ReadField::Number(v, i);
+        }
+        let Field::Number(n) = one_more(v, s[i]) else {
+            return ReadField::NotANumber;
         };
         v = n;
         i += 1;
     }
-    Field::Number(v)
+    ReadField::Number(v, i)
 }
 
-// One digit more, tested before the value is made, so that nothing wraps.
+// One digit more, tested before the value is made, so that nothing wraps: a tenth of
+// 18,446,744,073,709,551,615 may be followed by digits up to 5, what is below it by any.
 fn one_more(v: u64, b: u8) -> Field
     ensures { λ r. ⌜ r ≡ oneMore v b ⌝ }
 {
@@ -73,45 +86,32 @@ fn one_more(v: u64, b: u8) -> Field
         return Field::NotANumber;
     }
     let d = (b - 48) as u64;
-    if (18_446_744_073_709_551_615 - d) / 10 < v {
+    if v < 1_844_674_407_370_955_161 {
+        return Field::Number(v * 10 + d);
+    }
+    if 1_844_674_407_370_955_161 < v {
         return Field::NotANumber;
     }
-    Field::Number(v * 10 + d)
-}
-
-// The first field's number.
-pub fn field(s: &[u8]) -> Field
-    ensures { λ r. ⌜ r ≡ Lines·number (firstField (now (s .entry))) ⌝ }
-{
-    let e = field_end(s);
-    number(&s[..e])
-}
-
-// "The field reader hands back the part of the line after the field": it begins with the next
-// field's tab, and is empty where the line ends.
-pub fn after_field(s: &[u8]) -> &[u8]
-    ensures { λ r. ⌜ now r ≡ afterField (now (s .entry)) ⌝ }
-{
-    let e = field_end(s);
-    &s[e..]
-}
-
-// The number of the field that follows in a part that was handed back. Its tab is passed over.
-pub fn next_field(s: &[u8]) -> Field
-    ensures { λ r. ⌜ r ≡ nextField (now (s .entry)) ⌝ }
-{
-    if s.len() == 0 {
+    if 5 < d {
         return Field::NotANumber;
     }
-    field(&s[1..])
+    Field::Number(18_446_744_073_709_551_610 + d)
 }
 
-// The part after that field.
-pub fn after_next(s: &[u8]) -> &[u8]
-    ensures { λ r. ⌜ now r ≡ afterNext (now (s .entry)) ⌝ }
+// "1 to 20 decimal digits, no sign, no leading zero except `0` itself", of a field that has nothing but
+// digits.
+fn is_shaped(f: &[u8]) -> bool
+    ensures { λ r. ⌜ r ≡ isShaped (now (f .entry)) ⌝ }
 {
-    if s.len() == 0 {
-        return s;
+    (1 <= f.len()) & (f.len() <= 20) & !is_led(f)
+}
+
+// A leading zero: a first digit 0 with another after it.
+fn is_led(f: &[u8]) -> bool
+    ensures { λ r. ⌜ r ≡ leadingZero (now (f .entry)) ⌝ }
+{
+    if f.len() < 2 {
+        return false;
     }
-    after_field(&s[1..])
+    f[0] == 48
 }

@@ -1,6 +1,6 @@
 // The line reader: a word, so many numbers after it, each after a tab, and nothing after the last.
+use crate::fields::ReadField;
 use crate::fields::after_field;
-use crate::fields::after_next;
 use crate::fields::field_end;
 use crate::fields::next_field;
 use rules::calls::Call;
@@ -42,32 +42,34 @@ pub fn read_line(s: &[u8]) -> Line
     if 120 < s.len() {
         return Line::Malformed;
     }
-    let rest = after_field(s);
-    if word_is(s, b"deposit") {
+    let e = field_end(s);
+    let word = &s[..e];
+    let rest = after_field(s, e);
+    if word_is(word, b"deposit") {
         return read_deposit(rest);
     }
-    if word_is(s, b"claim") {
+    if word_is(word, b"claim") {
         return read_claim(rest);
     }
-    if word_is(s, b"transfer") {
+    if word_is(word, b"transfer") {
         return read_transfer(rest);
     }
-    if word_is(s, b"withdraw") {
+    if word_is(word, b"withdraw") {
         return read_withdraw(rest);
     }
-    if word_is(s, b"send") {
+    if word_is(word, b"send") {
         return read_send(rest);
     }
-    if word_is(s, b"settle") {
+    if word_is(word, b"settle") {
         return read_settle(rest);
     }
-    if word_is(s, b"grant") {
+    if word_is(word, b"grant") {
         return read_grant(rest);
     }
-    if word_is(s, b"sign") {
+    if word_is(word, b"sign") {
         return read_sign(rest);
     }
-    if word_is(s, b"trace") {
+    if word_is(word, b"trace") {
         return read_trace(rest);
     }
     Line::Malformed
@@ -77,11 +79,10 @@ pub fn read_line(s: &[u8]) -> Line
 fn last_field(s: &[u8]) -> Field
     ensures { λ r. ⌜ r ≡ lastField (now (s .entry)) ⌝ }
 {
-    let Field::Number(n) = next_field(s) else {
+    let ReadField::Number(n, end) = next_field(s) else {
         return Field::NotANumber;
     };
-    let rest = after_next(s);
-    if 0 < rest.len() {
+    if end < s.len() {
         return Field::NotANumber;
     }
     Field::Number(n)
@@ -91,18 +92,18 @@ fn last_field(s: &[u8]) -> Field
 fn four_fields(s: &[u8]) -> Numbers
     ensures { λ r. ⌜ r ≡ fourOf (now (s .entry)) ⌝ }
 {
-    let Field::Number(first) = next_field(s) else {
+    let ReadField::Number(first, end) = next_field(s) else {
         return Numbers::Malformed;
     };
-    let s = after_next(s);
-    let Field::Number(second) = next_field(s) else {
+    let s = after_field(s, end);
+    let ReadField::Number(second, end) = next_field(s) else {
         return Numbers::Malformed;
     };
-    let s = after_next(s);
-    let Field::Number(third) = next_field(s) else {
+    let s = after_field(s, end);
+    let ReadField::Number(third, end) = next_field(s) else {
         return Numbers::Malformed;
     };
-    let Field::Number(fourth) = last_field(after_next(s)) else {
+    let Field::Number(fourth) = last_field(after_field(s, end)) else {
         return Numbers::Malformed;
     };
     Numbers::Four(Four {
@@ -199,14 +200,14 @@ fn read_settle(s: &[u8]) -> Line
 fn read_grant(s: &[u8]) -> Line
     ensures { λ r. ⌜ r ≡ readsAs grantForm (now (s .entry)) ⌝ }
 {
-    let Field::Number(from) = next_field(s) else {
+    let ReadField::Number(from, end) = next_field(s) else {
         return Line::Malformed;
     };
-    let s = after_next(s);
-    let Field::Number(to) = next_field(s) else {
+    let s = after_field(s, end);
+    let ReadField::Number(to, end) = next_field(s) else {
         return Line::Malformed;
     };
-    let Field::Number(domain) = last_field(after_next(s)) else {
+    let Field::Number(domain) = last_field(after_field(s, end)) else {
         return Line::Malformed;
     };
     Line::Reads(Call::Grant(GrantFields { from, to, domain }))
@@ -216,10 +217,10 @@ fn read_grant(s: &[u8]) -> Line
 fn read_sign(s: &[u8]) -> Line
     ensures { λ r. ⌜ r ≡ readsAs signForm (now (s .entry)) ⌝ }
 {
-    let Field::Number(member) = next_field(s) else {
+    let ReadField::Number(member, end) = next_field(s) else {
         return Line::Malformed;
     };
-    let Field::Number(domain) = last_field(after_next(s)) else {
+    let Field::Number(domain) = last_field(after_field(s, end)) else {
         return Line::Malformed;
     };
     Line::Reads(Call::Sign(SignFields { member, domain }))
@@ -236,16 +237,16 @@ fn read_trace(s: &[u8]) -> Line
 }
 
 // Whether the line's first field is this word.
-fn word_is(s: &[u8], word: &[u8]) -> bool
-    ensures { λ r. ⌜ r ≡ same (now (word .entry)) (firstField (now (s .entry))) ⌝ }
+fn word_is(f: &[u8], word: &[u8]) -> bool
+    ensures { λ r. ⌜ r ≡ same (now (word .entry)) (now (f .entry)) ⌝ }
 {
-    let e = field_end(s);
-    if e != word.len() {
+    let n = word.len();
+    if f.len() != n {
         return false;
     }
     let mut k: usize = 0;
-    while k < e {
-        if s[k] != word[k] {
+    while k < n {
+        if f[k] != word[k] {
             return false;
         }
         k += 1;

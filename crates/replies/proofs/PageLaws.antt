@@ -1,16 +1,15 @@
 -- What is written on a page: text after text, the digits of a number, the pieces of a reply's line, and that a text for which there is room stands there whole.
 use Prim.Native.Nat.{ℕ, zero, suc, _+_, _-_, _*_, _/_, _%_, _^_, _≤_, _<_}
 use mathlib.Core.Path.{_≡_, refl, sym, ap, _∙_}
-use mathlib.Core.Bool.{Bool, true, false}
+use mathlib.Core.Bool.{true, cond}
 use mathlib.Core.List.{List, [], _∷_, _++_, append-assoc, append-nil}
-use native.Mathlib.Nat.{pow-suc, one-le-pow, pow-le-pow-right}
+use native.Mathlib.Nat.{pow-suc}
 use native.Mathlib.Numerals.{add-one}
 use native.Mathlib.Omega.{arith}
-use lib.Dec.{leb}
-use lib.ListN.{length, getD, take, set, length-set, length-append}
-use lib.Seq.{set-out, take-suc, take-suc-set}
-use borrow.Author.Tests.{lt-ltb, le-ltb, leb-true, leb-false}
-use Rattle.io.specs.Digits.{digits, Fewest, glyph}
+use lib.Dec.{ltb}
+use lib.ListN.{length, getD, take, drop, set, length-set, length-append, take-append-drop}
+use lib.Seq.{set-out, set-split, take-suc, take-suc-set, take-set-le, drop-cons, drop-set-lt, getD-set-same, take-at, append-snoc}
+use borrow.Author.Tests.{lt-ltb, le-ltb}
 use Rattle.rules.specs.declared.rows.Lot.{Lot}
 use Rattle.rules.specs.declared.answers.Tally.{Tally}
 use Rattle.rules.specs.Limits.{highestField}
@@ -22,7 +21,7 @@ use Rattle.rules.specs.Transcript.{pieceValues, replyText, endText}
 use Rattle.rules.proofs.Laying.{joined-append}
 use Rattle.rules.proofs.Digits.{decimal-spells}
 use Rattle.rules.proofs.ReadBack.{fitting, length-tabbed}
-use Rattle.replies.specs.Writing.{Page, page, putByte, put, replyStart, replyLine}
+use Rattle.replies.specs.Writing.{Page, page, putByte, put, laid, replyStart, replyLine}
 
 -- ---- a byte, and text after text
 pub byte-room : (o : List ℕ) (at b : ℕ) → at < length o → page (set o at b) (at + 1) ≡ put (page o at) (b ∷ [])
@@ -63,44 +62,77 @@ tabbed-one n = append-nil (9 ∷ decimal n)
 pub put-values : (p : Page) {q r : Page} (xs ys : List ℕ) → q ≡ put p (tabbed xs) → r ≡ put q (tabbed ys) → r ≡ put p (tabbed (xs ++ ys))
 put-values p xs ys e f = rw (tabbed-append xs ys) (put-then p (tabbed xs) (tabbed ys) e f)
 
--- ---- the digits that the toolchain's writer gives
-glyph-digit : (d : ℕ) → d < 10 → glyph d ≡ 48 + d
-glyph-digit d h = rw (lt-ltb d 10 h)
-
-fewest-spelled : (k j n : ℕ) → k ≤ j → n < 10 ^ suc k → (1 < suc k → 10 ^ k ≤ n) → digits 10 (suc k) n ≡ spelled (suc j) n
+-- ---- a number's digits
+-- one more is no more: so many digits spell the number already
+spelled-enough : (k n : ℕ) → n < 10 ^ suc k → spelled (suc k) n ≡ spelled (suc (suc k)) n
 unfolding spelled
-fewest-spelled zero j n h u l =
-    let m : n % 10 ≡ n = omega arith in
-    rw (lt-ltb n 10 u, m, glyph-digit n u)
-fewest-spelled (suc k) zero n h u l = absurd (omega arith)
-fewest-spelled (suc k) (suc j) n h u l =
-    let low : 10 ^ suc k ≤ n = l (omega arith) in
-    let s : 10 ^ suc k ≡ 10 ^ k * 10 = pow-suc 10 k in
-    let one : 1 ≤ 10 ^ k = one-le-pow k 10 (omega arith) in
-    let ten : 10 ≤ n = omega arith in
-    rw (le-ltb n 10 ten, glyph-digit (n % 10) (omega arith))
-    (ap (λ (r : List ℕ). r ++ ((48 + n % 10) ∷ [])) (fewest-spelled k j (n / 10) (omega arith) (omega (arith, pow-suc 10 (suc k))) (λ m. omega arith)))
+spelled-enough zero n h = rw (lt-ltb n 10 h)
+spelled-enough (suc k) n h = ap (λ (r : List ℕ). cond (ltb n 10) ((48 + n) ∷ []) (r ++ ((48 + n % 10) ∷ []))) (spelled-enough k (n / 10) (omega (arith, pow-suc 10 (suc k))))
 
--- a number that a field can hold has at most 20 digits
-few : (k n : ℕ) → n ≤ highestField → Fewest 10 1 n k → k ≤ 20
-few k n h f = go (leb k 20) refl
-  where
-    go : (t : Bool) → leb k 20 ≡ t → k ≤ 20
-    go true e = leb-true k 20 e
-    go false e =
-        let long : 20 < k = leb-false k 20 e in
-        let low : 10 ^ (k - 1) ≤ n = f .2 (omega arith) in
-        let far : 20 ≤ k - 1 = omega arith in
-        let more : 10 ^ 20 ≤ 10 ^ (k - 1) = pow-le-pow-right {n = 10} (omega arith) {i = 20} {j = k - 1} far in
-        absurd (omega arith)
+pub decimal-short : (n : ℕ) → n < 10 → decimal n ≡ (48 + n) ∷ []
+unfolding decimal spelled
+decimal-short n h = rw (lt-ltb n 10 h)
 
--- the fewest digits of such a number are its decimal
-pub decimal-digits : (k n : ℕ) → n ≤ highestField → Fewest 10 1 n k → digits 10 k n ≡ decimal n
-unfolding decimal
-decimal-digits zero n h f = absurd (omega (arith, f .0))
-decimal-digits (suc k) n h f =
-    let e : suc k - 1 ≡ k = omega arith in
-    fewest-spelled k 19 n (omega (arith, few (suc k) n h f)) (f .1) (λ m. rw e at (f .2 m))
+-- a number's tenth's digits, and then its last one
+pub decimal-long : (n : ℕ) → 10 ≤ n → n ≤ highestField → decimal n ≡ decimal (n / 10) ++ ((48 + n % 10) ∷ [])
+unfolding decimal spelled
+decimal-long n h l = rw (le-ltb n 10 h) (ap (λ (r : List ℕ). r ++ ((48 + n % 10) ∷ [])) (spelled-enough 18 (n / 10) (omega arith)))
+
+pub length-short : (n : ℕ) → n < 10 → length (decimal n) ≡ 1
+length-short n h = rw (decimal-short n h)
+
+pub length-long : (n : ℕ) → 10 ≤ n → n ≤ highestField → length (decimal n) ≡ length (decimal (n / 10)) + 1
+length-long n h l = rw (decimal-long n h l, length-append)
+
+pub length-two : (n : ℕ) → 10 ≤ n → n < 100 → length (decimal n) ≡ 2
+length-two n h l = length-long n h (omega arith) ∙ rw (length-short (n / 10) (omega arith))
+
+pub length-pair : (n : ℕ) → 100 ≤ n → n ≤ highestField → length (decimal n) ≡ length (decimal (n / 100)) + 2
+length-pair n h l =
+    let e : n / 10 / 10 ≡ n / 100 = omega arith in
+    let a : length (decimal n) ≡ length (decimal (n / 10)) + 1 = length-long n (omega arith) l in
+    let b : length (decimal (n / 10)) ≡ length (decimal (n / 100)) + 1 = rw e at (length-long (n / 10) (omega arith) (omega arith)) in
+    omega arith
+
+pub length-most : (n : ℕ) → n ≤ highestField → length (decimal n) ≤ 20
+length-most n h = decimal-spells n h .short
+
+-- ---- a text laid on a page
+pub put-laid : (o : List ℕ) (at : ℕ) (text : List ℕ) → at + length text ≤ length o → page (laid o at text) (at + length text) ≡ put (page o at) text
+unfolding put putByte
+put-laid o at [] h =
+    let e : at + 0 ≡ at = omega arith in
+    rw (e, append-nil (take at o), take-append-drop at o)
+put-laid o at (b ∷ bs) h =
+    let f : at < length o = omega arith in
+    let s : length (set o at b) ≡ length o = length-set o at b in
+    let e : at + suc (length bs) ≡ at + 1 + length bs = omega arith in
+    rw (lt-ltb at (length o) f)
+    (rw (e, ← drop-set-lt (at + 1 + length bs) o at b (omega arith), ← append-snoc (take at o) b bs, ← take-suc-set o at b f, ← add-one at) (put-laid (set o at b) (at + 1) bs (omega arith)))
+
+-- and one that lies at the front
+pub laid-front : (o : List ℕ) (text : List ℕ) {o′ : List ℕ} {k : ℕ} → o′ ≡ laid o 0 text → k ≡ length text → take k o′ ≡ text
+laid-front o text {k} e h = rw e (take-at text (drop (0 + length text) o) k (sym h))
+
+-- from the last digit to the first: those of rest are still to be written, before place p
+module _ (o : List ℕ) (at p rest : ℕ) (e : p ≡ at + length (decimal rest)) (l : p ≤ length o) where
+  pub laid-digit : 10 ≤ rest → rest ≤ highestField
+      → take at (set o (p - 1) (48 + rest % 10)) ++ decimal (rest / 10) ++ drop (p - 1) (set o (p - 1) (48 + rest % 10)) ≡ take at o ++ decimal rest ++ drop p o
+  laid-digit h m =
+      let b = 48 + rest % 10 in
+      let q = p - 1 in
+      let n : length (decimal rest) ≡ length (decimal (rest / 10)) + 1 = length-long rest h m in
+      let r : p ≡ suc q = omega arith in
+      let s : length (set o q b) ≡ length o = length-set o q b in
+      rw (take-set-le at o q b (omega arith), drop-cons (set o q b) q 0 (omega arith), getD-set-same o q b 0 (omega arith), drop-set-lt (suc q) o q b (omega arith), ← r, decimal-long rest h m, ← append-assoc (take at o) (decimal (rest / 10)) (b ∷ []))
+      (sym (append-snoc (take at o ++ decimal (rest / 10)) b (drop p o)))
+
+  pub laid-last : rest < 10 → set o (p - 1) (48 + rest) ≡ take at o ++ decimal rest ++ drop p o
+  laid-last h =
+      let n : length (decimal rest) ≡ 1 = length-short rest h in
+      let q : p - 1 ≡ at = omega arith in
+      let r : p ≡ suc at = omega arith in
+      rw (decimal-short rest h, q, r, append-snoc (take at o) (48 + rest) (drop (suc at) o)) (set-split o at (48 + rest) (omega arith))
 
 -- ---- the line of a reply
 start-values : (n : ℕ) (r : Reply) → replyStart n r ≡ decimal n ++ tabbed (r .number ∷ []) ++ tabbed (r .values)

@@ -3,7 +3,7 @@ use Prim.Native.Nat.{ℕ, _+_}
 use mathlib.Core.Bool.{cond}
 use mathlib.Core.List.{List, [], _∷_, _++_}
 use lib.Dec.{ltb}
-use lib.ListN.{length, set}
+use lib.ListN.{length, take, drop, set}
 use Rattle.rules.specs.Replies.{Reply}
 use Rattle.rules.specs.Lines.{lineFeed, decimal, tabbed}
 
@@ -23,6 +23,10 @@ putByte p b = page (set (p .bytes) (p .upto) b) (cond (ltb (p .upto) (length (p 
 unfoldable pub put : Page → List ℕ → Page
 put p [] = p
 put p (b ∷ bs) = put (putByte p b) bs
+
+-- a text that lies in a list from a place on
+abbrev pub laid : List ℕ → ℕ → List ℕ → List ℕ
+laid o at text = take at o ++ text ++ drop (at + length text) o
 
 -- "line number and reply number", and the values that come after them: a reply's line up to its pieces
 unfoldable pub replyStart : ℕ → Reply → List ℕ

@@ -19,8 +19,8 @@ returns : tie.Need-returns
 unfolding fourOf
 returns c = sym (take-not 3 _ _ _ (sym (c .before .before .next-field .ensures) ∙ c .enum-told .given .1))
 
-after-next-requires : tie.Need-after-next-requires
-after-next-requires c κs = search needs
+after-field-requires : tie.Need-after-field-requires
+after-field-requires c κs = search needs
 
 next-field-requires-2 : tie.Need-next-field-requires-2
 next-field-requires-2 c κs = search needs
@@ -33,10 +33,10 @@ enum-told-2 c = search needs
 
 returns-2 : tie.Need-returns-2
 unfolding fourOf
-returns-2 c = sym (take-one 3 _ _ _ (sym (c .before .before .before .before .before .before .before .next-field .ensures) ∙ c .before .before .before .before .before .first .given .1) (c .before .before .before .after-next .ensures) (take-not 2 _ _ _ (sym (c .before .before .next-field2 .ensures) ∙ c .enum-told2 .given .1)))
+returns-2 c = sym (take-one 3 _ _ _ (sym (c .before .before .before .before .before .before .before .next-field .ensures) ∙ c .before .before .before .before .before .first .given .1) (c .before .before .before .after-field .ensures) (take-not 2 _ _ _ (sym (c .before .before .next-field2 .ensures) ∙ c .enum-told2 .given .1)))
 
-after-next-requires-2 : tie.Need-after-next-requires-2
-after-next-requires-2 c κs = search needs
+after-field-requires-2 : tie.Need-after-field-requires-2
+after-field-requires-2 c κs = search needs
 
 next-field-requires-3 : tie.Need-next-field-requires-3
 next-field-requires-3 c κs = search needs
@@ -49,10 +49,10 @@ enum-told-3 c = search needs
 
 returns-3 : tie.Need-returns-3
 unfolding fourOf
-returns-3 c = sym (take-one 3 _ _ _ (sym (c .before .before .before .before .before .before .before .before .before .before .before .before .next-field .ensures) ∙ c .before .before .before .before .before .before .before .before .before .before .first .given .1) (c .before .before .before .before .before .before .before .before .after-next .ensures) (take-one 2 _ _ _ (sym (c .before .before .before .before .before .before .before .next-field2 .ensures) ∙ c .before .before .before .before .before .second .given .1) (c .before .before .before .after-next2 .ensures) (take-not 1 _ _ _ (sym (c .before .before .next-field3 .ensures) ∙ c .enum-told3 .given .1))))
+returns-3 c = sym (take-one 3 _ _ _ (sym (c .before .before .before .before .before .before .before .before .before .before .before .before .next-field .ensures) ∙ c .before .before .before .before .before .before .before .before .before .before .first .given .1) (c .before .before .before .before .before .before .before .before .after-field .ensures) (take-one 2 _ _ _ (sym (c .before .before .before .before .before .before .before .next-field2 .ensures) ∙ c .before .before .before .before .before .second .given .1) (c .before .before .before .after-field2 .ensures) (take-not 1 _ _ _ (sym (c .before .before .next-field3 .ensures) ∙ c .enum-told3 .given .1))))
 
-after-next-requires-3 : tie.Need-after-next-requires-3
-after-next-requires-3 c κs = search needs
+after-field-requires-3 : tie.Need-after-field-requires-3
+after-field-requires-3 c κs = search needs
 
 last-field-requires : tie.Need-last-field-requires
 last-field-requires c κs = search needs
@@ -65,11 +65,11 @@ enum-told-4 c = search needs
 
 returns-4 : tie.Need-returns-4
 unfolding fourOf
-returns-4 c = sym (take-one 3 _ _ _ (sym (c .before .before .before .before .before .before .before .before .before .before .before .before .before .before .before .before .before .next-field .ensures) ∙ c .before .before .before .before .before .before .before .before .before .before .before .before .before .before .before .first .given .1) (c .before .before .before .before .before .before .before .before .before .before .before .before .before .after-next .ensures) (take-one 2 _ _ _ (sym (c .before .before .before .before .before .before .before .before .before .before .before .before .next-field2 .ensures) ∙ c .before .before .before .before .before .before .before .before .before .before .second .given .1) (c .before .before .before .before .before .before .before .before .after-next2 .ensures) (take-one 1 _ _ _ (sym (c .before .before .before .before .before .before .before .next-field3 .ensures) ∙ c .before .before .before .before .before .third .given .1) (c .before .before .before .after-next3 .ensures) (last-not _ _ _ (sym (c .before .before .last-field .ensures) ∙ c .enum-told4 .given .1)))))
+returns-4 c = sym (take-one 3 _ _ _ (sym (c .before .before .before .before .before .before .before .before .before .before .before .before .before .before .before .before .before .next-field .ensures) ∙ c .before .before .before .before .before .before .before .before .before .before .before .before .before .before .before .first .given .1) (c .before .before .before .before .before .before .before .before .before .before .before .before .before .after-field .ensures) (take-one 2 _ _ _ (sym (c .before .before .before .before .before .before .before .before .before .before .before .before .next-field2 .ensures) ∙ c .before .before .before .before .before .before .before .before .before .before .second .given .1) (c .before .before .before .before .before .before .before .before .after-field2 .ensures) (take-one 1 _ _ _ (sym (c .before .before .before .before .before .before .before .next-field3 .ensures) ∙ c .before .before .before .before .before .third .given .1) (c .before .before .before .after-field3 .ensures) (last-not _ _ _ (sym (c .before .before .last-field .ensures) ∙ c .enum-told4 .given .1)))))
 
 returns-5 : tie.Need-returns-5
 unfolding fourOf
-returns-5 c = sym (take-one 3 _ _ _ (sym (c .before .before .before .before .before .before .before .before .before .before .before .before .before .before .before .before .before .before .next-field .ensures) ∙ c .before .before .before .before .before .before .before .before .before .before .before .before .before .before .before .before .first .given .1) (c .before .before .before .before .before .before .before .before .before .before .before .before .before .before .after-next .ensures) (take-one 2 _ _ _ (sym (c .before .before .before .before .before .before .before .before .before .before .before .before .before .next-field2 .ensures) ∙ c .before .before .before .before .before .before .before .before .before .before .before .second .given .1) (c .before .before .before .before .before .before .before .before .before .after-next2 .ensures) (take-one 1 _ _ _ (sym (c .before .before .before .before .before .before .before .before .next-field3 .ensures) ∙ c .before .before .before .before .before .before .third .given .1) (c .before .before .before .before .after-next3 .ensures) (last-one _ _ _ (sym (c .before .before .before .last-field .ensures) ∙ c .before .fourth .given .1)))))
+returns-5 c = sym (take-one 3 _ _ _ (sym (c .before .before .before .before .before .before .before .before .before .before .before .before .before .before .before .before .before .before .next-field .ensures) ∙ c .before .before .before .before .before .before .before .before .before .before .before .before .before .before .before .before .first .given .1) (c .before .before .before .before .before .before .before .before .before .before .before .before .before .before .after-field .ensures) (take-one 2 _ _ _ (sym (c .before .before .before .before .before .before .before .before .before .before .before .before .before .next-field2 .ensures) ∙ c .before .before .before .before .before .before .before .before .before .before .before .second .given .1) (c .before .before .before .before .before .before .before .before .before .after-field2 .ensures) (take-one 1 _ _ _ (sym (c .before .before .before .before .before .before .before .before .next-field3 .ensures) ∙ c .before .before .before .before .before .before .third .given .1) (c .before .before .before .before .after-field3 .ensures) (last-one _ _ _ (sym (c .before .before .before .last-field .ensures) ∙ c .before .fourth .given .1)))))
 
 pub four-fields-spec : {M : Type 1} → statement M
 four-fields-spec =
@@ -79,17 +79,17 @@ four-fields-spec =
     enum-known-first
     enum-told
     returns
-    after-next-requires
+    after-field-requires
     next-field-requires-2
     enum-known-second
     enum-told-2
     returns-2
-    after-next-requires-2
+    after-field-requires-2
     next-field-requires-3
     enum-known-third
     enum-told-3
     returns-3
-    after-next-requires-3
+    after-field-requires-3
     last-field-requires
     enum-known-fourth
     enum-told-4

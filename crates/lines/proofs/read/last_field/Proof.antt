@@ -1,5 +1,7 @@
 -- `read::last_field`: one number is taken, and nothing is left.
-use mathlib.Core.Path.{sym, _∙_}
+use mathlib.Core.Path.{refl, sym, _∙_}
+use native.Mathlib.Omega.{arith}
+use lib.ListN.{length-drop}
 use Rattle.lines.proofs.TakingLaws.{take-not, take-one, take-more, take-end}
 use Rattle.lines.specs.Reading.{lastField}
 use borrow.Author.Needs.{needs}
@@ -19,25 +21,14 @@ returns : tie.Need-returns
 unfolding lastField
 returns c = sym (take-not 0 _ _ _ (sym (c .before .before .next-field .ensures) ∙ c .enum-told .given .1))
 
-after-next-requires : tie.Need-after-next-requires
-after-next-requires c κs = search needs
-
 returns-2 : tie.Need-returns-2
 unfolding lastField
-returns-2 c = sym (take-one 0 _ _ _ (sym (c .before .before .before .before .before .next-field .ensures) ∙ c .before .before .before .n .given .1) (c .before .after-next .ensures) (take-more _ _ _ (c .if1 .taken)))
+returns-2 c = sym (take-one 0 _ _ _ (sym (c .before .before .before .before .next-field .ensures) ∙ c .before .before .n .given .1) refl (take-more _ _ _ (rw length-drop (omega (arith, c .if1 .taken)))))
 
 returns-3 : tie.Need-returns-3
 unfolding lastField
-returns-3 c = sym (take-one 0 _ _ _ (sym (c .before .before .before .before .before .next-field .ensures) ∙ c .before .before .before .n .given .1) (c .before .after-next .ensures) (take-end _ _ _ (c .if1 .left)))
+returns-3 c = sym (take-one 0 _ _ _ (sym (c .before .before .before .before .next-field .ensures) ∙ c .before .before .n .given .1) refl (take-end _ _ _ (rw length-drop (omega (arith, c .if1 .left)))))
 
 pub last-field-spec : {M : Type 1} → statement M
 last-field-spec =
-    tie.close
-    (tie.spec
-    next-field-requires
-    enum-known-n
-    enum-told
-    returns
-    after-next-requires
-    returns-2
-    returns-3)
+    tie.close (tie.spec next-field-requires enum-known-n enum-told returns returns-2 returns-3)

@@ -20,8 +20,8 @@ returns : tie.Need-returns
 unfolding readsAs grantForm
 returns c = sym (take-not 2 _ _ _ (sym (c .before .before .next-field .ensures) ∙ c .enum-told .given .1))
 
-after-next-requires : tie.Need-after-next-requires
-after-next-requires c κs = search needs
+after-field-requires : tie.Need-after-field-requires
+after-field-requires c κs = search needs
 
 next-field-requires-2 : tie.Need-next-field-requires-2
 next-field-requires-2 c κs = search needs
@@ -34,10 +34,10 @@ enum-told-2 c = search needs
 
 returns-2 : tie.Need-returns-2
 unfolding readsAs grantForm
-returns-2 c = sym (take-one 2 _ _ _ (sym (c .before .before .before .before .before .before .before .next-field .ensures) ∙ c .before .before .before .before .before .from .given .1) (c .before .before .before .after-next .ensures) (take-not 1 _ _ _ (sym (c .before .before .next-field2 .ensures) ∙ c .enum-told2 .given .1)))
+returns-2 c = sym (take-one 2 _ _ _ (sym (c .before .before .before .before .before .before .before .next-field .ensures) ∙ c .before .before .before .before .before .from .given .1) (c .before .before .before .after-field .ensures) (take-not 1 _ _ _ (sym (c .before .before .next-field2 .ensures) ∙ c .enum-told2 .given .1)))
 
-after-next-requires-2 : tie.Need-after-next-requires-2
-after-next-requires-2 c κs = search needs
+after-field-requires-2 : tie.Need-after-field-requires-2
+after-field-requires-2 c κs = search needs
 
 last-field-requires : tie.Need-last-field-requires
 last-field-requires c κs = search needs
@@ -50,11 +50,11 @@ enum-told-3 c = search needs
 
 returns-3 : tie.Need-returns-3
 unfolding readsAs grantForm
-returns-3 c = sym (take-one 2 _ _ _ (sym (c .before .before .before .before .before .before .before .before .before .before .before .before .next-field .ensures) ∙ c .before .before .before .before .before .before .before .before .before .before .from .given .1) (c .before .before .before .before .before .before .before .before .after-next .ensures) (take-one 1 _ _ _ (sym (c .before .before .before .before .before .before .before .next-field2 .ensures) ∙ c .before .before .before .before .before .to .given .1) (c .before .before .before .after-next2 .ensures) (last-not _ _ _ (sym (c .before .before .last-field .ensures) ∙ c .enum-told3 .given .1))))
+returns-3 c = sym (take-one 2 _ _ _ (sym (c .before .before .before .before .before .before .before .before .before .before .before .before .next-field .ensures) ∙ c .before .before .before .before .before .before .before .before .before .before .from .given .1) (c .before .before .before .before .before .before .before .before .after-field .ensures) (take-one 1 _ _ _ (sym (c .before .before .before .before .before .before .before .next-field2 .ensures) ∙ c .before .before .before .before .before .to .given .1) (c .before .before .before .after-field2 .ensures) (last-not _ _ _ (sym (c .before .before .last-field .ensures) ∙ c .enum-told3 .given .1))))
 
 returns-4 : tie.Need-returns-4
 unfolding readsAs grantForm
-returns-4 c = sym (take-one 2 _ _ _ (sym (c .before .before .before .before .before .before .before .before .before .before .before .before .before .next-field .ensures) ∙ c .before .before .before .before .before .before .before .before .before .before .before .from .given .1) (c .before .before .before .before .before .before .before .before .before .after-next .ensures) (take-one 1 _ _ _ (sym (c .before .before .before .before .before .before .before .before .next-field2 .ensures) ∙ c .before .before .before .before .before .before .to .given .1) (c .before .before .before .before .after-next2 .ensures) (last-one _ _ _ (sym (c .before .before .before .last-field .ensures) ∙ c .before .domain .given .1))))
+returns-4 c = sym (take-one 2 _ _ _ (sym (c .before .before .before .before .before .before .before .before .before .before .before .before .before .next-field .ensures) ∙ c .before .before .before .before .before .before .before .before .before .before .before .from .given .1) (c .before .before .before .before .before .before .before .before .before .after-field .ensures) (take-one 1 _ _ _ (sym (c .before .before .before .before .before .before .before .before .next-field2 .ensures) ∙ c .before .before .before .before .before .before .to .given .1) (c .before .before .before .before .after-field2 .ensures) (last-one _ _ _ (sym (c .before .before .before .last-field .ensures) ∙ c .before .domain .given .1))))
 
 pub read-grant-spec : {M : Type 1} → statement M
 read-grant-spec =
@@ -64,12 +64,12 @@ read-grant-spec =
     enum-known-from
     enum-told
     returns
-    after-next-requires
+    after-field-requires
     next-field-requires-2
     enum-known-to
     enum-told-2
     returns-2
-    after-next-requires-2
+    after-field-requires-2
     last-field-requires
     enum-known-domain
     enum-told-3

@@ -1,7 +1,10 @@
 -- `read::read_line`: the word decides the form; where it is none of the nine, no form reads the line.
 use mathlib.Core.Path.{sym, _∙_}
+use native.Mathlib.Omega.{arith}
+use lib.ListN.{length-take}
 use Rattle.rules.specs.Lists.{any, bytes}
 use Rattle.rules.specs.Lines.{forms, depositForm, claimForm, transferForm, withdrawForm, sendForm, settleForm, grantForm, signForm, traceForm}
+use Rattle.lines.proofs.FieldLaws.{end-within}
 use Rattle.lines.proofs.LineLaws.{line-long, line-form, line-none, deposit-alone, claim-alone, transfer-alone, withdraw-alone, send-alone, settle-alone, grant-alone, sign-alone, trace-alone}
 use borrow.Author.Needs.{needs}
 use Rattle.lines.proofs.read.read_line.Statement.{statement}
@@ -9,6 +12,12 @@ use Rattle.lines.proofs.read.read_line.Tie as tie
 
 returns : tie.Need-returns
 returns c = sym (line-long (c .before .before .args .s .now) (c .if1 .taken))
+
+field-end-requires : tie.Need-field-end-requires
+field-end-requires c κs = search needs
+
+slice-aggregate-word : tie.Need-slice-aggregate-word
+slice-aggregate-word c = rw length-take (omega (arith, end-within (c .before .before .before .before .args .s .now), c .before .field-end .ensures))
 
 after-field-requires : tie.Need-after-field-requires
 after-field-requires c κs = search needs
@@ -24,7 +33,7 @@ read-deposit-requires c κs = search needs
 
 returns-2 : tie.Need-returns-2
 unfolding bytes depositForm
-returns-2 c = line-form (c .before .before .before .before .before .before .before .args .s .now) depositForm deposit-alone (c .before .before .before .before .before .if1 .left) (c .before .before .word-is .ensures) (c .before .if2 .taken) (c .before .before .before .before .after-field .ensures) (c .read-deposit .ensures)
+returns-2 c = line-form (c .before .before .before .before .before .before .before .before .before .args .s .now) (c .before .before .before .before .before .before .before .if1 .left) (c .before .before .before .before .before .before .field-end .ensures) depositForm deposit-alone (c .before .before .word-is .ensures) (c .before .if2 .taken) (c .before .before .before .before .after-field .ensures) (c .read-deposit .ensures)
 
 slice-aggregate-word-is-2 : tie.Need-slice-aggregate-word-is-2
 slice-aggregate-word-is-2 c = search needs
@@ -37,7 +46,7 @@ read-claim-requires c κs = search needs
 
 returns-3 : tie.Need-returns-3
 unfolding bytes claimForm
-returns-3 c = line-form (c .before .before .before .before .before .before .before .before .before .before .args .s .now) claimForm claim-alone (c .before .before .before .before .before .before .before .before .if1 .left) (c .before .before .word-is2 .ensures) (c .before .if3 .taken) (c .before .before .before .before .before .before .before .after-field .ensures) (c .read-claim .ensures)
+returns-3 c = line-form (c .before .before .before .before .before .before .before .before .before .before .before .before .args .s .now) (c .before .before .before .before .before .before .before .before .before .before .if1 .left) (c .before .before .before .before .before .before .before .before .before .field-end .ensures) claimForm claim-alone (c .before .before .word-is2 .ensures) (c .before .if3 .taken) (c .before .before .before .before .before .before .before .after-field .ensures) (c .read-claim .ensures)
 
 slice-aggregate-word-is-3 : tie.Need-slice-aggregate-word-is-3
 slice-aggregate-word-is-3 c = search needs
@@ -50,7 +59,7 @@ read-transfer-requires c κs = search needs
 
 returns-4 : tie.Need-returns-4
 unfolding bytes transferForm
-returns-4 c = line-form (c .before .before .before .before .before .before .before .before .before .before .before .before .before .args .s .now) transferForm transfer-alone (c .before .before .before .before .before .before .before .before .before .before .before .if1 .left) (c .before .before .word-is3 .ensures) (c .before .if4 .taken) (c .before .before .before .before .before .before .before .before .before .before .after-field .ensures) (c .read-transfer .ensures)
+returns-4 c = line-form (c .before .before .before .before .before .before .before .before .before .before .before .before .before .before .before .args .s .now) (c .before .before .before .before .before .before .before .before .before .before .before .before .before .if1 .left) (c .before .before .before .before .before .before .before .before .before .before .before .before .field-end .ensures) transferForm transfer-alone (c .before .before .word-is3 .ensures) (c .before .if4 .taken) (c .before .before .before .before .before .before .before .before .before .before .after-field .ensures) (c .read-transfer .ensures)
 
 slice-aggregate-word-is-4 : tie.Need-slice-aggregate-word-is-4
 slice-aggregate-word-is-4 c = search needs
@@ -63,7 +72,7 @@ read-withdraw-requires c κs = search needs
 
 returns-5 : tie.Need-returns-5
 unfolding bytes withdrawForm
-returns-5 c = line-form (c .before .before .before .before .before .before .before .before .before .before .before .before .before .before .before .before .args .s .now) withdrawForm withdraw-alone (c .before .before .before .before .before .before .before .before .before .before .before .before .before .before .if1 .left) (c .before .before .word-is4 .ensures) (c .before .if5 .taken) (c .before .before .before .before .before .before .before .before .before .before .before .before .before .after-field .ensures) (c .read-withdraw .ensures)
+returns-5 c = line-form (c .before .before .before .before .before .before .before .before .before .before .before .before .before .before .before .before .before .before .args .s .now) (c .before .before .before .before .before .before .before .before .before .before .before .before .before .before .before .before .if1 .left) (c .before .before .before .before .before .before .before .before .before .before .before .before .before .before .before .field-end .ensures) withdrawForm withdraw-alone (c .before .before .word-is4 .ensures) (c .before .if5 .taken) (c .before .before .before .before .before .before .before .before .before .before .before .before .before .after-field .ensures) (c .read-withdraw .ensures)
 
 slice-aggregate-word-is-5 : tie.Need-slice-aggregate-word-is-5
 slice-aggregate-word-is-5 c = search needs
@@ -76,7 +85,7 @@ read-send-requires c κs = search needs
 
 returns-6 : tie.Need-returns-6
 unfolding bytes sendForm
-returns-6 c = line-form (c .before .before .before .before .before .before .before .before .before .before .before .before .before .before .before .before .before .before .before .args .s .now) sendForm send-alone (c .before .before .before .before .before .before .before .before .before .before .before .before .before .before .before .before .before .if1 .left) (c .before .before .word-is5 .ensures) (c .before .if6 .taken) (c .before .before .before .before .before .before .before .before .before .before .before .before .before .before .before .before .after-field .ensures) (c .read-send .ensures)
+returns-6 c = line-form (c .before .before .before .before .before .before .before .before .before .before .before .before .before .before .before .before .before .before .before .before .before .args .s .now) (c .before .before .before .before .before .before .before .before .before .before .before .before .before .before .before .before .before .before .before .if1 .left) (c .before .before .before .before .before .before .before .before .before .before .before .before .before .before .before .before .before .before .field-end .ensures) sendForm send-alone (c .before .before .word-is5 .ensures) (c .before .if6 .taken) (c .before .before .before .before .before .before .before .before .before .before .before .before .before .before .before .before .after-field .ensures) (c .read-send .ensures)
 
 slice-aggregate-word-is-6 : tie.Need-slice-aggregate-word-is-6
 slice-aggregate-word-is-6 c = search needs
@@ -89,7 +98,7 @@ read-settle-requires c κs = search needs
 
 returns-7 : tie.Need-returns-7
 unfolding bytes settleForm
-returns-7 c = line-form (c .before .before .before .before .before .before .before .before .before .before .before .before .before .before .before .before .before .before .before .before .before .before .args .s .now) settleForm settle-alone (c .before .before .before .before .before .before .before .before .before .before .before .before .before .before .before .before .before .before .before .before .if1 .left) (c .before .before .word-is6 .ensures) (c .before .if7 .taken) (c .before .before .before .before .before .before .before .before .before .before .before .before .before .before .before .before .before .before .before .after-field .ensures) (c .read-settle .ensures)
+returns-7 c = line-form (c .before .before .before .before .before .before .before .before .before .before .before .before .before .before .before .before .before .before .before .before .before .before .before .before .args .s .now) (c .before .before .before .before .before .before .before .before .before .before .before .before .before .before .before .before .before .before .before .before .before .before .if1 .left) (c .before .before .before .before .before .before .before .before .before .before .before .before .before .before .before .before .before .before .before .before .before .field-end .ensures) settleForm settle-alone (c .before .before .word-is6 .ensures) (c .before .if7 .taken) (c .before .before .before .before .before .before .before .before .before .before .before .before .before .before .before .before .before .before .before .after-field .ensures) (c .read-settle .ensures)
 
 slice-aggregate-word-is-7 : tie.Need-slice-aggregate-word-is-7
 slice-aggregate-word-is-7 c = search needs
@@ -102,7 +111,7 @@ read-grant-requires c κs = search needs
 
 returns-8 : tie.Need-returns-8
 unfolding bytes grantForm
-returns-8 c = line-form (c .before .before .before .before .before .before .before .before .before .before .before .before .before .before .before .before .before .before .before .before .before .before .before .before .before .args .s .now) grantForm grant-alone (c .before .before .before .before .before .before .before .before .before .before .before .before .before .before .before .before .before .before .before .before .before .before .before .if1 .left) (c .before .before .word-is7 .ensures) (c .before .if8 .taken) (c .before .before .before .before .before .before .before .before .before .before .before .before .before .before .before .before .before .before .before .before .before .before .after-field .ensures) (c .read-grant .ensures)
+returns-8 c = line-form (c .before .before .before .before .before .before .before .before .before .before .before .before .before .before .before .before .before .before .before .before .before .before .before .before .before .before .before .args .s .now) (c .before .before .before .before .before .before .before .before .before .before .before .before .before .before .before .before .before .before .before .before .before .before .before .before .before .if1 .left) (c .before .before .before .before .before .before .before .before .before .before .before .before .before .before .before .before .before .before .before .before .before .before .before .before .field-end .ensures) grantForm grant-alone (c .before .before .word-is7 .ensures) (c .before .if8 .taken) (c .before .before .before .before .before .before .before .before .before .before .before .before .before .before .before .before .before .before .before .before .before .before .after-field .ensures) (c .read-grant .ensures)
 
 slice-aggregate-word-is-8 : tie.Need-slice-aggregate-word-is-8
 slice-aggregate-word-is-8 c = search needs
@@ -115,7 +124,7 @@ read-sign-requires c κs = search needs
 
 returns-9 : tie.Need-returns-9
 unfolding bytes signForm
-returns-9 c = line-form (c .before .before .before .before .before .before .before .before .before .before .before .before .before .before .before .before .before .before .before .before .before .before .before .before .before .before .before .before .args .s .now) signForm sign-alone (c .before .before .before .before .before .before .before .before .before .before .before .before .before .before .before .before .before .before .before .before .before .before .before .before .before .before .if1 .left) (c .before .before .word-is8 .ensures) (c .before .if9 .taken) (c .before .before .before .before .before .before .before .before .before .before .before .before .before .before .before .before .before .before .before .before .before .before .before .before .before .after-field .ensures) (c .read-sign .ensures)
+returns-9 c = line-form (c .before .before .before .before .before .before .before .before .before .before .before .before .before .before .before .before .before .before .before .before .before .before .before .before .before .before .before .before .before .before .args .s .now) (c .before .before .before .before .before .before .before .before .before .before .before .before .before .before .before .before .before .before .before .before .before .before .before .before .before .before .before .before .if1 .left) (c .before .before .before .before .before .before .before .before .before .before .before .before .before .before .before .before .before .before .before .before .before .before .before .before .before .before .before .field-end .ensures) signForm sign-alone (c .before .before .word-is8 .ensures) (c .before .if9 .taken) (c .before .before .before .before .before .before .before .before .before .before .before .before .before .before .before .before .before .before .before .before .before .before .before .before .before .after-field .ensures) (c .read-sign .ensures)
 
 slice-aggregate-word-is-9 : tie.Need-slice-aggregate-word-is-9
 slice-aggregate-word-is-9 c = search needs
@@ -128,17 +137,19 @@ read-trace-requires c κs = search needs
 
 returns-10 : tie.Need-returns-10
 unfolding bytes traceForm
-returns-10 c = line-form (c .before .before .before .before .before .before .before .before .before .before .before .before .before .before .before .before .before .before .before .before .before .before .before .before .before .before .before .before .before .before .before .args .s .now) traceForm trace-alone (c .before .before .before .before .before .before .before .before .before .before .before .before .before .before .before .before .before .before .before .before .before .before .before .before .before .before .before .before .before .if1 .left) (c .before .before .word-is9 .ensures) (c .before .if10 .taken) (c .before .before .before .before .before .before .before .before .before .before .before .before .before .before .before .before .before .before .before .before .before .before .before .before .before .before .before .before .after-field .ensures) (c .read-trace .ensures)
+returns-10 c = line-form (c .before .before .before .before .before .before .before .before .before .before .before .before .before .before .before .before .before .before .before .before .before .before .before .before .before .before .before .before .before .before .before .before .before .args .s .now) (c .before .before .before .before .before .before .before .before .before .before .before .before .before .before .before .before .before .before .before .before .before .before .before .before .before .before .before .before .before .before .before .if1 .left) (c .before .before .before .before .before .before .before .before .before .before .before .before .before .before .before .before .before .before .before .before .before .before .before .before .before .before .before .before .before .before .field-end .ensures) traceForm trace-alone (c .before .before .word-is9 .ensures) (c .before .if10 .taken) (c .before .before .before .before .before .before .before .before .before .before .before .before .before .before .before .before .before .before .before .before .before .before .before .before .before .before .before .before .after-field .ensures) (c .read-trace .ensures)
 
 returns-11 : tie.Need-returns-11
 unfolding any bytes forms depositForm claimForm transferForm withdrawForm sendForm settleForm grantForm signForm traceForm
-returns-11 c = sym (line-none (c .before .before .before .before .before .before .before .before .before .before .before .before .before .before .before .before .before .before .before .before .before .before .before .before .before .before .before .before .before .before .args .s .now) (c .before .before .before .before .before .before .before .before .before .before .before .before .before .before .before .before .before .before .before .before .before .before .before .before .before .before .before .before .if1 .left) (rw (sym (c .before .before .before .before .before .before .before .before .before .before .before .before .before .before .before .before .before .before .before .before .before .before .before .before .before .word-is .ensures) ∙ c .before .before .before .before .before .before .before .before .before .before .before .before .before .before .before .before .before .before .before .before .before .before .before .before .if2 .left, sym (c .before .before .before .before .before .before .before .before .before .before .before .before .before .before .before .before .before .before .before .before .before .before .word-is2 .ensures) ∙ c .before .before .before .before .before .before .before .before .before .before .before .before .before .before .before .before .before .before .before .before .before .if3 .left, sym (c .before .before .before .before .before .before .before .before .before .before .before .before .before .before .before .before .before .before .before .word-is3 .ensures) ∙ c .before .before .before .before .before .before .before .before .before .before .before .before .before .before .before .before .before .before .if4 .left, sym (c .before .before .before .before .before .before .before .before .before .before .before .before .before .before .before .before .word-is4 .ensures) ∙ c .before .before .before .before .before .before .before .before .before .before .before .before .before .before .before .if5 .left, sym (c .before .before .before .before .before .before .before .before .before .before .before .before .before .word-is5 .ensures) ∙ c .before .before .before .before .before .before .before .before .before .before .before .before .if6 .left, sym (c .before .before .before .before .before .before .before .before .before .before .word-is6 .ensures) ∙ c .before .before .before .before .before .before .before .before .before .if7 .left, sym (c .before .before .before .before .before .before .before .word-is7 .ensures) ∙ c .before .before .before .before .before .before .if8 .left, sym (c .before .before .before .before .word-is8 .ensures) ∙ c .before .before .before .if9 .left, sym (c .before .word-is9 .ensures) ∙ c .if10 .left)))
+returns-11 c = sym (line-none (c .before .before .before .before .before .before .before .before .before .before .before .before .before .before .before .before .before .before .before .before .before .before .before .before .before .before .before .before .before .before .before .before .args .s .now) (c .before .before .before .before .before .before .before .before .before .before .before .before .before .before .before .before .before .before .before .before .before .before .before .before .before .before .before .before .before .before .if1 .left) (c .before .before .before .before .before .before .before .before .before .before .before .before .before .before .before .before .before .before .before .before .before .before .before .before .before .before .before .before .before .field-end .ensures) (rw (sym (c .before .before .before .before .before .before .before .before .before .before .before .before .before .before .before .before .before .before .before .before .before .before .before .before .before .word-is .ensures) ∙ c .before .before .before .before .before .before .before .before .before .before .before .before .before .before .before .before .before .before .before .before .before .before .before .before .if2 .left, sym (c .before .before .before .before .before .before .before .before .before .before .before .before .before .before .before .before .before .before .before .before .before .before .word-is2 .ensures) ∙ c .before .before .before .before .before .before .before .before .before .before .before .before .before .before .before .before .before .before .before .before .before .if3 .left, sym (c .before .before .before .before .before .before .before .before .before .before .before .before .before .before .before .before .before .before .before .word-is3 .ensures) ∙ c .before .before .before .before .before .before .before .before .before .before .before .before .before .before .before .before .before .before .if4 .left, sym (c .before .before .before .before .before .before .before .before .before .before .before .before .before .before .before .before .word-is4 .ensures) ∙ c .before .before .before .before .before .before .before .before .before .before .before .before .before .before .before .if5 .left, sym (c .before .before .before .before .before .before .before .before .before .before .before .before .before .word-is5 .ensures) ∙ c .before .before .before .before .before .before .before .before .before .before .before .before .if6 .left, sym (c .before .before .before .before .before .before .before .before .before .before .word-is6 .ensures) ∙ c .before .before .before .before .before .before .before .before .before .if7 .left, sym (c .before .before .before .before .before .before .before .word-is7 .ensures) ∙ c .before .before .before .before .before .before .if8 .left, sym (c .before .before .before .before .word-is8 .ensures) ∙ c .before .before .before .if9 .left, sym (c .before .word-is9 .ensures) ∙ c .if10 .left)))
 
 pub read-line-spec : {M : Type 1} → statement M
 read-line-spec =
     tie.close
     (tie.spec
     returns
+    field-end-requires
+    slice-aggregate-word
     after-field-requires
     slice-aggregate-word-is
     word-is-requires

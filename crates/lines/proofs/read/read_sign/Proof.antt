@@ -20,8 +20,8 @@ returns : tie.Need-returns
 unfolding readsAs signForm
 returns c = sym (take-not 1 _ _ _ (sym (c .before .before .next-field .ensures) ∙ c .enum-told .given .1))
 
-after-next-requires : tie.Need-after-next-requires
-after-next-requires c κs = search needs
+after-field-requires : tie.Need-after-field-requires
+after-field-requires c κs = search needs
 
 last-field-requires : tie.Need-last-field-requires
 last-field-requires c κs = search needs
@@ -34,11 +34,11 @@ enum-told-2 c = search needs
 
 returns-2 : tie.Need-returns-2
 unfolding readsAs signForm
-returns-2 c = sym (take-one 1 _ _ _ (sym (c .before .before .before .before .before .before .before .next-field .ensures) ∙ c .before .before .before .before .before .member .given .1) (c .before .before .before .after-next .ensures) (last-not _ _ _ (sym (c .before .before .last-field .ensures) ∙ c .enum-told2 .given .1)))
+returns-2 c = sym (take-one 1 _ _ _ (sym (c .before .before .before .before .before .before .before .next-field .ensures) ∙ c .before .before .before .before .before .member .given .1) (c .before .before .before .after-field .ensures) (last-not _ _ _ (sym (c .before .before .last-field .ensures) ∙ c .enum-told2 .given .1)))
 
 returns-3 : tie.Need-returns-3
 unfolding readsAs signForm
-returns-3 c = sym (take-one 1 _ _ _ (sym (c .before .before .before .before .before .before .before .before .next-field .ensures) ∙ c .before .before .before .before .before .before .member .given .1) (c .before .before .before .before .after-next .ensures) (last-one _ _ _ (sym (c .before .before .before .last-field .ensures) ∙ c .before .domain .given .1)))
+returns-3 c = sym (take-one 1 _ _ _ (sym (c .before .before .before .before .before .before .before .before .next-field .ensures) ∙ c .before .before .before .before .before .before .member .given .1) (c .before .before .before .before .after-field .ensures) (last-one _ _ _ (sym (c .before .before .before .last-field .ensures) ∙ c .before .domain .given .1)))
 
 pub read-sign-spec : {M : Type 1} → statement M
 read-sign-spec =
@@ -48,7 +48,7 @@ read-sign-spec =
     enum-known-member
     enum-told
     returns
-    after-next-requires
+    after-field-requires
     last-field-requires
     enum-known-domain
     enum-told-2
