@@ -6,9 +6,7 @@ use mathlib.Core.List.{List}
 use Rattle.rules.specs.declared.desk.Desk.{Desk}
 use Rattle.rules.specs.declared.answers.Refusal.{Refusal}
 use Rattle.rules.specs.declared.answers.Answer.{Answer}
-use Rattle.rules.specs.State.{Book}
 use Rattle.rules.specs.Effects.{balance}
-use Rattle.rules.specs.Frame.{inFrame}
 use Rattle.rules.proofs.Told.{once}
 use Rattle.desk.specs.Parts.{ofEight, isDone}
 use Rattle.desk.specs.Kept.{eightSet}
@@ -27,9 +25,6 @@ refuse-once applies why rest = once (cond applies (Answer.Refused why) rest)
 
 pub is-done-once : (a : Answer) {r r′ : Bool} → r ≡ isDone a → r′ ≡ isDone a → r ≡ r′
 is-done-once a = once (isDone a)
-
-pub in-frame-once : (b : Book) {r r′ : Bool} → r ≡ inFrame b → r′ ≡ inFrame b → r ≡ r′
-in-frame-once b = once (inFrame b)
 
 -- with_balance, with_holder, with_lifetime, with_settled
 pub kept-once : (kept : Desk) {r r′ : Desk} → r ≡ kept → r′ ≡ kept → r ≡ r′

@@ -1,56 +1,10 @@
--- The frame test in the parts that the code tests together: the inbox with its count, the outbox with its count, and the desk's own numbers.
+-- What a desk keeps under a number, and whether an answer was a refusal.
 use Prim.Native.Nat.{ℕ, _-_}
-use mathlib.Core.Bool.{Bool, _&&_, true, false, cond}
+use mathlib.Core.Bool.{Bool, true, false, cond}
 use mathlib.Core.List.{List}
-use lib.Dec.{leb, eqb}
 use lib.ListN.{getD}
-use Rattle.rules.specs.declared.desk.Desk.{Desk}
 use Rattle.rules.specs.declared.answers.Answer.{Answer}
-use Rattle.desk.specs.declared.frame.Counts.{Counts}
-use Rattle.rules.specs.Limits.{within, ceiling, inboxRows, outboxRows, historyRows, highestNumber, highestNext, isMember}
-use Rattle.rules.specs.Lists.{all}
-use Rattle.rules.specs.Tables.{rowsOf, depositShape, paymentShape, recordShape}
-use Rattle.rules.specs.Frame.{hasRows, upToCeiling, depositInLimits, paymentInLimits, numbersRise, noncesRise}
-
-unfoldable pub inboxFrame : List ℕ → ℕ → ℕ → Bool
-inboxFrame t n last =
-    hasRows depositShape inboxRows t
-    && (leb n inboxRows && (all depositInLimits (rowsOf depositShape n t) && numbersRise 0 last (rowsOf depositShape n t)))
-
-unfoldable pub outboxFrame : List ℕ → ℕ → ℕ → Bool
-outboxFrame t n next =
-    hasRows paymentShape outboxRows t
-    && (leb n outboxRows && (all paymentInLimits (rowsOf paymentShape n t) && noncesRise next (rowsOf paymentShape n t)))
-
--- a desk in its parts: its counts and counters, and the desk that has them and these lists
-abbrev pub countsOf : Desk → Counts
-countsOf d = record { last = d .last; next = d .next; unclaimed = d .unclaimed; payments = d .payments; inflight = d .inflight; records = d .records }
-
-abbrev pub deskWith : List ℕ → List ℕ → List ℕ → List ℕ → Counts → Desk
-deskWith balances holders lifetime settled c =
-    record {
-      balances = balances;
-      holders = holders;
-      lifetime = lifetime;
-      settled = settled;
-      last = c .last;
-      next = c .next;
-      unclaimed = c .unclaimed;
-      payments = c .payments;
-      inflight = c .inflight;
-      records = c .records;
-    }
-
--- the desk's lists: balances and totals up to the ceiling, and holders that are members
-unfoldable pub listsFrame : List ℕ → List ℕ → List ℕ → List ℕ → Bool
-listsFrame balances holders lifetime settled =
-    all upToCeiling balances && (all upToCeiling lifetime && (all upToCeiling settled && all isMember holders))
-
--- the counts and the counters, with how many numbers the history's table has
-unfoldable pub countsFrame : Counts → ℕ → Bool
-countsFrame c size =
-    eqb size 5120
-    && (leb (c .records) historyRows && (leb (c .inflight) (c .payments) && (leb (c .last .0) highestNumber && leb (c .next .0) highestNext)))
+use Rattle.rules.specs.Limits.{within}
 
 -- of eight numbers the one for asset or domain i; outside 1 to 8 there is none, so 0
 abbrev pub ofEight : List ℕ → ℕ → ℕ

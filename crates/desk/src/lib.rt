@@ -3,5 +3,4 @@
 // holder and no total, so 0.
 pub mod answers;
 pub mod fields;
-pub mod frame;
 pub mod keep;

@@ -1,7 +1,7 @@
 // The records of a book: one of them, and the whole test that provenance and trace begin with.
 use crate::frame::history_in_frame;
-use desk::frame::counts_of;
-use desk::frame::in_frame;
+use frames::counts_of;
+use frames::in_frame;
 use rules::desk::Desk;
 use rules::rows::Record;
 ghost use mathlib.Core.Path.{_≡_};

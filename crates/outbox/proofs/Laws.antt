@@ -31,8 +31,9 @@ use Rattle.rules.proofs.Tests.{both, both-of, within-true, true-within, all-at}
 use Rattle.rules.proofs.Accepts.{fit, accepted-frame}
 use Rattle.tables.specs.Rows.{putAt, takenOut}
 use Rattle.desk.specs.Kept.{balanceKept, settledKept}
-use Rattle.desk.specs.Parts.{ofEight, countsFrame, countsOf, listsFrame, inboxFrame, outboxFrame}
-use Rattle.desk.proofs.Frames.{frame-parts}
+use Rattle.desk.specs.Parts.{ofEight}
+use Rattle.frames.specs.Parts.{countsFrame, countsOf, listsFrame, inboxFrame, outboxFrame}
+use Rattle.frames.proofs.Frames.{frame-parts}
 use Rattle.desk.proofs.Chains.{Entry, chain, notBelow, chain-told}
 use Rattle.desk.proofs.Books.{Framed, framed, inbox-kept, outbox-kept, record-added, history-kept, payments-are, inbox-count, outbox-count, flight-count, history-count}
 use Rattle.outbox.specs.After.{paymentAt, withCounts, withdrawnDesk, sentDesk, settledDesk, CanWithdraw, CanSettle}

@@ -174,7 +174,7 @@ module _ (m : Machine) (chunk out₀ : List ℕ) (at₀ k : ℕ) (f : Feeding) (
       let b : getD chunk (k + n) 0 ≡ 10 = sym (getD-drop k chunk n 0) ∙ ap (λ (t : List ℕ). getD t n 0) (sym q) ∙ nf .feed inside in
       let m′ = part-more m chunk k n q (s .machine) (part-fed (f .running) i o h held (take n part) held′ few (nf .none) refl) in
       let same : writes m (take (k + n) chunk) ≡ writes m (take k chunk) =
-        writes-both m chunk k n q (s .machine) ∙ rw (part-written (f .running) i o h held (take n part) few (nf .none)) (append-nil (writes m (take k chunk))) in
+      writes-both m chunk k n q (s .machine) ∙ rw (part-written (f .running) i o h held (take n part) few (nf .none)) (append-nil (writes m (take k chunk))) in
       let text : page out (f .at) ≡ put (page out₀ at₀) (writes m (take (k + n) chunk)) = rw same (s .text) in
       let one : k + n + 1 ≡ k + (n + 1) = omega arith in
       subst (λ (j : ℕ). SoFar m chunk out₀ at₀ j (record { running = run; held = 0; at = at }) i′ o′ h′ hold′ out′) one

@@ -25,6 +25,7 @@ first-held before (b ∷ bs) h = go (ltb (length before) 121) refl (λ g. first-
   where
     longer : length (before ++ (b ∷ [])) ≡ length before + 1
     longer = length-append before (b ∷ [])
+
     go : (t : Bool) → ltb (length before) 121 ≡ t → (length (before ++ (b ∷ [])) ≤ 121 → holds (before ++ (b ∷ [])) bs ≡ take 121 ((before ++ (b ∷ [])) ++ bs)) → holds before bs ≡ take 121 (before ++ bs)
         → holds (cond t (before ++ (b ∷ [])) before) bs ≡ take 121 (before ++ (b ∷ bs))
     go true e more same =

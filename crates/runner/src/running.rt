@@ -1,12 +1,12 @@
 // One line in, one line out: the book is stepped, the tally raised once, and the reply written.
-use steps::counted::tallied_step;
-use steps::tally::one_more;
 use replies::put_reply_line;
 use rules::answers::Answer;
 use rules::answers::Refusal;
 use rules::answers::Tally;
 use rules::calls::Line;
 use rules::desk::Desk;
+use steps::counted::tallied_step;
+use steps::tally::one_more;
 ghost use Prim.Native.Nat.{_≤_};
 ghost use mathlib.Core.Path.{_≡_};
 ghost use mathlib.Core.List.{[]};

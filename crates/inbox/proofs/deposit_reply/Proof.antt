@@ -10,8 +10,8 @@ use Rattle.desk.proofs.fields.is_amount.Reads as is-amount-reads
 use Rattle.desk.proofs.fields.is_asset.Reads as is-asset-reads
 use Rattle.desk.proofs.fields.is_member.Reads as is-member-reads
 use Rattle.desk.proofs.fields.of_eight.Reads as of-eight-reads
-use Rattle.desk.proofs.frame.counts_of.Reads as counts-of-reads
-use Rattle.desk.proofs.frame.in_frame.Reads as in-frame-reads
+use Rattle.frames.proofs.counts_of.Reads as counts-of-reads
+use Rattle.frames.proofs.in_frame.Reads as in-frame-reads
 use Rattle.inbox.proofs.is_gap.Reads as is-gap-reads
 use Rattle.inbox.proofs.passes_ceiling.Reads as passes-ceiling-reads
 

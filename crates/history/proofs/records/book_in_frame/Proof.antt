@@ -5,7 +5,7 @@ use Rattle.history.proofs.records.book_in_frame.Statement.{statement}
 use Rattle.history.proofs.records.book_in_frame.Tie as tie
 use Rattle.history.proofs.records.book_in_frame.Reads as reads
 use Rattle.history.proofs.records.book_in_frame.Lts as lts
-use Rattle.desk.proofs.frame.in_frame.Reads as in-frame-reads
+use Rattle.frames.proofs.in_frame.Reads as in-frame-reads
 use Rattle.history.proofs.frame.history_in_frame.Reads as history-in-frame-reads
 
 -- src/records.rt:36:5

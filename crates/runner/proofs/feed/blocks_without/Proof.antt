@@ -3,7 +3,6 @@ use mathlib.Core.Path.{_≡_, sym, ap, _∙_}
 use mathlib.Core.Bool.{Bool, true, false, not}
 use native.Mathlib.Omega.{arith}
 use lib.ListN.{length, take, drop}
-
 use Rattle.rules.specs.Lists.{all}
 use Rattle.runner.specs.Feeding.{noFeed}
 use Rattle.runner.proofs.Whole.{none-yet, none-block}

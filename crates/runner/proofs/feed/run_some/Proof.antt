@@ -255,9 +255,16 @@ loop-again c =
     let w = c .before .before .before .answer-malformed in
     let few = c .before .before .before .before .before .before .before .before .before .before .before .before .before .before .before .if2 .left in
     let room = holds-room (c .before .before .before .before .before .before .before .before .before .before .before .before .before .before .before .before .before .has-room .result) _ (c .before .before .before .before .before .before .before .before .before .before .before .before .before .before .before .before .before .has-room .ensures) (c .before .before .before .before .before .before .before .before .before .before .before .before .before .before .before .before .if1 .left) in
-    let run : Running = running (v .desk) (v .tally) (v .line) in
-    (so-line _ _ _ _ _ _ _ _ _ _ _ (v .inv .0) few room (from-on (a .chunk .now) (v .k)) (n .result) (n .ensures) (c .before .before .before .before .before .before .before .before .before .before .before .before .if3 .left) Line.Malformed (sym (c .before .before .before .before .before .enum-told .given .1) ∙ l .ensures) (running (v .desk) (w .result .tally) (v .line + 1)) (w .result .at) (v .inbox) (v .outbox) (v .history) (l .last .0) (w .last .1 .1 .0) (search needs)
-    (malformed-answered run (v .inbox) (v .outbox) (v .history) (w .result .tally) (w .ensures .0)) (malformed-text run (v .inbox) (v .outbox) (v .history) (page (v .out) (v .at)) (w .ensures .1)) (malformed-counted run (v .inbox) (v .outbox) (v .history) (w .result .tally) (w .ensures .0) (v .inv .0 .ready .counted) few), search needs, search needs, search needs, search needs, search needs, λ z. absurd (omega (arith, z)))
+    let run : Running = running (v .desk) (v .tally) (v .line) in (
+      so-line _ _ _ _ _ _ _ _ _ _ _ (v .inv .0) few room (from-on (a .chunk .now) (v .k)) (n .result) (n .ensures) (c .before .before .before .before .before .before .before .before .before .before .before .before .if3 .left) Line.Malformed (sym (c .before .before .before .before .before .enum-told .given .1) ∙ l .ensures) (running (v .desk) (w .result .tally) (v .line + 1)) (w .result .at) (v .inbox) (v .outbox) (v .history) (l .last .0) (w .last .1 .1 .0) (search needs)
+          (malformed-answered run (v .inbox) (v .outbox) (v .history) (w .result .tally) (w .ensures .0)) (malformed-text run (v .inbox) (v .outbox) (v .history) (page (v .out) (v .at)) (w .ensures .1)) (malformed-counted run (v .inbox) (v .outbox) (v .history) (w .result .tally) (w .ensures .0) (v .inv .0 .ready .counted) few),
+      search needs,
+      search needs,
+      search needs,
+      search needs,
+      search needs,
+      λ z. absurd (omega (arith, z)),
+    )
 
 enum-told-2 : tie.Need-enum-told-2 Inv-loop μ-loop
 enum-told-2 c = search needs
@@ -304,9 +311,16 @@ loop-again-2 c =
     let l = c .before .before .before .before .before .before .before .before .before .before .before .before .before .before .before .before .before .before .before .before .whole-line in
     let w = c .before .before .before .before .before .before .before .before .before .before .before .answer-line in
     let few = c .before .before .before .before .before .before .before .before .before .before .before .before .before .before .before .before .before .before .before .before .before .before .before .before .before .before .if2 .left in
-    let room = holds-room (c .before .before .before .before .before .before .before .before .before .before .before .before .before .before .before .before .before .before .before .before .before .before .before .before .before .before .before .before .has-room .result) _ (c .before .before .before .before .before .before .before .before .before .before .before .before .before .before .before .before .before .before .before .before .before .before .before .before .before .before .before .before .has-room .ensures) (c .before .before .before .before .before .before .before .before .before .before .before .before .before .before .before .before .before .before .before .before .before .before .before .before .before .before .before .if1 .left) in
-    (so-line _ _ _ _ _ _ _ _ _ _ _ (v .inv .0) few room (from-on (a .chunk .now) (v .k)) (n .result) (n .ensures) (c .before .before .before .before .before .before .before .before .before .before .before .before .before .before .before .before .before .before .before .before .before .before .before .if3 .left) (l .result) (l .ensures) (w .result .running) (w .result .at) (w .last .1 .0) (w .last .1 .1 .0) (w .last .1 .1 .1 .0) (l .last .0) (w .last .1 .1 .1 .1 .0) (search needs)
-    (w .ensures .0) (w .ensures .1 .0) (w .ensures .1 .1), search needs, search needs, search needs, search needs, search needs, λ z. absurd (omega (arith, z)))
+    let room = holds-room (c .before .before .before .before .before .before .before .before .before .before .before .before .before .before .before .before .before .before .before .before .before .before .before .before .before .before .before .before .has-room .result) _ (c .before .before .before .before .before .before .before .before .before .before .before .before .before .before .before .before .before .before .before .before .before .before .before .before .before .before .before .before .has-room .ensures) (c .before .before .before .before .before .before .before .before .before .before .before .before .before .before .before .before .before .before .before .before .before .before .before .before .before .before .before .if1 .left) in (
+      so-line _ _ _ _ _ _ _ _ _ _ _ (v .inv .0) few room (from-on (a .chunk .now) (v .k)) (n .result) (n .ensures) (c .before .before .before .before .before .before .before .before .before .before .before .before .before .before .before .before .before .before .before .before .before .before .before .if3 .left) (l .result) (l .ensures) (w .result .running) (w .result .at) (w .last .1 .0) (w .last .1 .1 .0) (w .last .1 .1 .1 .0) (l .last .0) (w .last .1 .1 .1 .1 .0) (search needs)
+          (w .ensures .0) (w .ensures .1 .0) (w .ensures .1 .1),
+      search needs,
+      search needs,
+      search needs,
+      search needs,
+      search needs,
+      λ z. absurd (omega (arith, z)),
+    )
 
 -- src/feed.rt:185:5
 so-far-requires-4 : tie.Need-so-far-requires-4 Inv-loop μ-loop
