@@ -1,10 +1,14 @@
 // The input byte after byte, however it is cut into reads.
 use crate::running::Running;
 use crate::running::answer_line;
-use crate::running::answer_malformed;
 use lines::read::read_line;
 use replies::put_end;
+use replies::put_reply_line;
+use rules::answers::Answer;
+use rules::answers::Refusal;
+use rules::answers::Tally;
 use rules::calls::Line;
+use steps::tally::one_more;
 ghost use Prim.Native.Nat.{_+_, _-_, _≤_};
 ghost use lib.Dec.{leb};
 ghost use mathlib.Core.Path.{_≡_};
@@ -12,8 +16,12 @@ ghost use lib.ListN.{length, take};
 ghost use mathlib.Core.Bool.{not, true};
 ghost use Rattle.rules.specs.Lists.{all};
 ghost use Rattle.rules.specs.Lines.{readLine};
+ghost use Rattle.rules.specs.Replies.{told};
+ghost use Rattle.rules.specs.Transcript.{tallied};
+ghost use Rattle.replies.specs.Writing.{page, put, replyLine};
 ghost use Rattle.runner.specs.Machine.{held-with, holds};
 ghost use Rattle.runner.specs.Feeding.{Ready, noFeed, NextFeed};
+ghost use Rattle.runner.specs.Running.{malformed};
 ghost use Rattle.runner.specs.Kept.{kept, RunSome, Closed};
 
 // What is kept between bytes: what is kept between lines, how many bytes of a line are held, and the
@@ -201,6 +209,26 @@ fn has_room(len: usize, at: usize) -> bool
         return false;
     }
     45000 <= len - at
+}
+
+// The tally after a line that is Malformed, and the place up to which the output is written.
+struct Refused {
+    tally: Tally,
+    at: usize,
+}
+
+// 1 Malformed, on any book: the book is left as it was, so no desk is handed on.
+fn answer_malformed(tally: Tally, line: u64, out: &mut [u8], at: usize) -> Refused
+    requires { ⌜ tally .done ≤ 100000 ⌝ }
+    requires { ⌜ tally .other ≤ 100000 ⌝ }
+    ensures { λ r. ⌜ r .tally ≡ tallied tally 1 ⌝ }
+    ensures { λ r. ⌜ page (now (out .exit)) (r .at) ≡ put (page (now (out .entry)) at) (replyLine line (told malformed)) ⌝ }
+{
+    let why = Refusal::Malformed;
+    let answer = Answer::Refused(why);
+    let p = put_reply_line(out, at, line, answer);
+    let t = one_more(tally, 1);
+    Refused { tally: t, at: p }
 }
 
 // At the end of the input: "An unfinished last line is Malformed", and last comes `end`.

@@ -1,20 +1,15 @@
 // One line in, one line out: the book is stepped, the tally raised once, and the reply written.
-use replies::put_reply_line;
-use rules::answers::Answer;
-use rules::answers::Refusal;
 use rules::answers::Tally;
 use rules::calls::Line;
 use rules::desk::Desk;
 use steps::counted::tallied_step;
-use steps::tally::one_more;
 ghost use Prim.Native.Nat.{_≤_};
 ghost use mathlib.Core.Path.{_≡_};
 ghost use mathlib.Core.List.{[]};
-ghost use Rattle.rules.specs.Replies.{told};
-ghost use Rattle.rules.specs.Transcript.{replyText, tallied};
-ghost use Rattle.replies.specs.Writing.{page, put, replyLine};
+ghost use Rattle.rules.specs.Transcript.{replyText};
+ghost use Rattle.replies.specs.Writing.{page, put};
 ghost use Rattle.runner.specs.Machine.{outcomeFor, answered};
-ghost use Rattle.runner.specs.Running.{machineOf, Counted, malformed};
+ghost use Rattle.runner.specs.Running.{machineOf, Counted};
 
 // What is kept between lines, beside the lent tables: the desk, the tally, and the number of the line
 // that comes next.
@@ -70,24 +65,4 @@ pub fn answer_line(
         running,
         at: stepped.at,
     }
-}
-
-// The tally after a line that is Malformed, and the place up to which the output is written.
-pub struct Refused {
-    pub tally: Tally,
-    pub at: usize,
-}
-
-// 1 Malformed, on any book: the book is left as it was, so no desk is handed on.
-pub fn answer_malformed(tally: Tally, line: u64, out: &mut [u8], at: usize) -> Refused
-    requires { ⌜ tally .done ≤ 100000 ⌝ }
-    requires { ⌜ tally .other ≤ 100000 ⌝ }
-    ensures { λ r. ⌜ r .tally ≡ tallied tally 1 ⌝ }
-    ensures { λ r. ⌜ page (now (out .exit)) (r .at) ≡ put (page (now (out .entry)) at) (replyLine line (told malformed)) ⌝ }
-{
-    let why = Refusal::Malformed;
-    let answer = Answer::Refused(why);
-    let p = put_reply_line(out, at, line, answer);
-    let t = one_more(tally, 1);
-    Refused { tally: t, at: p }
 }

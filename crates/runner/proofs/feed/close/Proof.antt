@@ -9,7 +9,7 @@ use Rattle.runner.proofs.feed.close.Tie as tie
 use Rattle.runner.proofs.feed.close.Reads as reads
 use Rattle.runner.proofs.feed.close.Lts as lts
 use Rattle.replies.proofs.put_end.Reads as put-end-reads
-use Rattle.runner.proofs.running.answer_malformed.Reads as answer-malformed-reads
+use Rattle.runner.proofs.feed.answer_malformed.Reads as answer-malformed-reads
 
 -- src/feed.rt:147:9
 put-end-requires : tie.Need-put-end-requires

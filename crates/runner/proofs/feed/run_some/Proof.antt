@@ -29,7 +29,7 @@ use Rattle.runner.proofs.feed.hold_part.Reads as hold-part-reads
 use Rattle.runner.proofs.feed.so_far.Reads as so-far-reads
 use Rattle.runner.proofs.feed.whole_line.Reads as whole-line-reads
 use Rattle.runner.proofs.running.answer_line.Reads as answer-line-reads
-use Rattle.runner.proofs.running.answer_malformed.Reads as answer-malformed-reads
+use Rattle.runner.proofs.feed.answer_malformed.Reads as answer-malformed-reads
 
 abbrev running : Desk → Tally → ℕ → Running
 running desk tally line = record { desk = desk; tally = tally; line = line }
