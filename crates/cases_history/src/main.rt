@@ -183,7 +183,7 @@ fn provenances(d: Desk, history: &[u64]) {
 fn provenance(d: Desk, history: &[u64], member: u64, asset: u64) {
     let inbox = [0u64; 256];
     let outbox = [0u64; 128];
-    let o = history::origin::provenance(d, &inbox, &outbox, history, member, asset);
+    let o = records::origin::provenance(d, &inbox, &outbox, history, member, asset);
     match o {
         Origin::Amount(n) => {
             value(0);

@@ -1,6 +1,3 @@
-pub mod KindNumbers
-pub mod Following
-pub mod Counting
 pub mod Passing
 pub mod Replaying
 pub mod Payments

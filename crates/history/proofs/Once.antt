@@ -7,20 +7,11 @@ use lib.ListN.{length, getD, set, replicate}
 use Rattle.rules.specs.declared.rows.Nonce.{Nonce}
 use Rattle.rules.specs.declared.rows.Lot.{Lot}
 use Rattle.rules.specs.declared.answers.Answer.{Answer}
-use Rattle.rules.specs.declared.answers.Origin.{Origin}
 use Rattle.rules.specs.State.{Book}
-use Rattle.rules.specs.Replies.{toldOrigin}
 use Rattle.rules.specs.Lots.{noLot}
-use Rattle.rules.specs.Answer.{TraceOutcome, traceAnswer, provenanceAnswer}
-use Rattle.rules.proofs.Told.{told-once, origin-once}
-use Rattle.history.specs.Test.{historyFrame}
+use Rattle.rules.specs.Answer.{TraceOutcome, traceAnswer}
+use Rattle.rules.proofs.Told.{told-once}
 use Rattle.history.specs.Tracing.{traceOutcomeOf}
-
-pub history-in-frame-once : (t : List ℕ) (n : ℕ) (r r′ : Bool) → r ≡ historyFrame t n → r′ ≡ historyFrame t n → r ≡ r′
-history-in-frame-once t n r r′ p q = p ∙ sym q
-
-pub provenance-once : (b : Book) (m a : ℕ) (r r′ : Origin) → toldOrigin r ≡ provenanceAnswer b m a → toldOrigin r′ ≡ provenanceAnswer b m a → r ≡ r′
-provenance-once b m a r r′ p q = origin-once r r′ (p ∙ sym q)
 
 -- the answer, and every row of both lent tables
 pub trace-once : (b : Book) (work pieces : List Lot) (n : Nonce) (r r′ : Answer) (w w′ p p′ : List Lot)

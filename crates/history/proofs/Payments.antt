@@ -23,7 +23,7 @@ use Rattle.lots.proofs.TraceLaws.{payment-at, pieces-at}
 use Rattle.lots.proofs.LotCounts.{replay-count}
 use Rattle.history.specs.Working.{CanReplay, Replays}
 use Rattle.history.specs.Tracing.{CanReplayAll, ReplaysAll}
-use Rattle.history.proofs.Counting.{rows-last}
+use Rattle.records.proofs.Counting.{rows-last}
 
 -- a row of the rows is the row of the table
 getD-rows : {A : Type 0} (shape : Shape A) (n i : ℕ) (t : List ℕ) (d : A) → i < n → getD (rowsOf shape n t) i d ≡ rowAt shape i t

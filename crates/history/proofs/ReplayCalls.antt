@@ -42,8 +42,8 @@ use Rattle.lots.specs.Traces.{beforePayment}
 use Rattle.history.specs.Working.{CanReplay, Replays}
 use Rattle.history.specs.Tracing.{CanReplayAll, ReplaysAll}
 use Rattle.history.proofs.Values.{R, Records, machR, at-list, sv}
-use Rattle.history.proofs.records.record_at as record-at
-use Rattle.history.proofs.records.record_at.Symbol.{name as #record-at}
+use Rattle.records.proofs.record_at as record-at
+use Rattle.records.proofs.record_at.Symbol.{name as #record-at}
 use Rattle.history.proofs.replay.payment_at as payment-at
 use Rattle.history.proofs.replay.payment_at.Symbol.{name as #payment-at}
 use Rattle.history.proofs.replay.replayed as replayed

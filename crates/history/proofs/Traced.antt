@@ -37,7 +37,7 @@ use Rattle.history.specs.declared.work.Taking.{Taking}
 use Rattle.history.specs.Working.{CanTake, TakesFrom, joinedOn}
 use Rattle.history.specs.Tracing.{traceOutcomeOf, traceNumberFor, CanReplayAll, ReplaysAll, CanTrace, Traces}
 use Rattle.history.proofs.Passing.{in-rows, joined-in-front}
-use Rattle.history.proofs.Counting.{not-both}
+use Rattle.records.proofs.Counting.{not-both}
 use Rattle.history.proofs.Payments.{no-payment, place-in, pieces-there, few-lots}
 
 -- ---- the table of refusals

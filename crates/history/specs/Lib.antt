@@ -1,4 +1,2 @@
-pub mod Test
-pub mod Counts
 pub mod Working
 pub mod Tracing

@@ -1,8 +1,5 @@
-// What reads the records: the test of a whole history, provenance and trace. No function here writes
-// a table of the book; trace writes only the two tables that it is lent.
-pub mod frame;
-pub mod origin;
-mod records;
+// The trace of a payment. No function here writes a table of the book; trace writes only the two tables that it
+// is lent.
 mod refusals;
 mod replay;
 pub mod rows;

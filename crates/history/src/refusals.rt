@@ -1,7 +1,7 @@
 // What a trace is refused for.
-use crate::records::book_in_frame;
 use crate::replay::payment_at;
 use desk::answers::refuse;
+use records::book_in_frame;
 use rules::answers::Answer;
 use rules::answers::Refusal;
 use rules::desk::Desk;

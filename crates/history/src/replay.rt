@@ -1,10 +1,10 @@
 // The replay of a history in lots: one record, the records before a payment, and what the payment then
 // takes, as its pieces.
-use crate::records::record_at;
 use crate::rows::clear;
 use crate::rows::put_lot;
 use crate::work::join;
 use crate::work::take_from;
+use records::record_at;
 use rules::rows::DepositNumber;
 use rules::rows::Lot;
 use rules::rows::Record;

@@ -5,7 +5,7 @@ use Rattle.rules.specs.State.{Book, historyOf}
 use Rattle.rules.specs.Frame.{inFrame}
 use Rattle.rules.specs.History.{historyInFrame}
 use Rattle.rules.specs.Answer.{bookOf}
-use Rattle.history.proofs.Counting.{can-work}
+use Rattle.records.proofs.Counting.{can-work}
 use Rattle.history.proofs.Traced.{trace-told}
 use borrow.Author.Needs.{needs}
 use Rattle.history.proofs.refusals.trace_reply.Statement.{statement}
@@ -13,7 +13,7 @@ use Rattle.history.proofs.refusals.trace_reply.Tie as tie
 use Rattle.history.proofs.refusals.trace_reply.Reads as reads
 use Rattle.history.proofs.refusals.trace_reply.Lts as lts
 use Rattle.desk.proofs.answers.refuse.Reads as refuse-reads
-use Rattle.history.proofs.records.book_in_frame.Reads as book-in-frame-reads
+use Rattle.records.proofs.book_in_frame.Reads as book-in-frame-reads
 use Rattle.history.proofs.replay.payment_at.Reads as payment-at-reads
 
 -- the book that came

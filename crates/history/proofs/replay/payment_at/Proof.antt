@@ -11,7 +11,7 @@ use Rattle.history.proofs.replay.payment_at.Statement.{statement}
 use Rattle.history.proofs.replay.payment_at.Tie as tie
 use Rattle.history.proofs.replay.payment_at.Reads as reads
 use Rattle.history.proofs.replay.payment_at.Lts as lts
-use Rattle.history.proofs.records.record_at.Reads as record-at-reads
+use Rattle.records.proofs.record_at.Reads as record-at-reads
 use Rattle.history.proofs.replay.one_less.Reads as one-less-reads
 
 abbrev Inv-loop : tie.InvT-loop

@@ -47,7 +47,7 @@ use Rattle.rules.proofs.rows.Record.Laws as Rc′
 use Rattle.history.specs.Working.{CanReplay, Replays}
 use Rattle.history.proofs.work.Taking as Tk
 use Rattle.history.proofs.work.Taking.Laws as Tk′
-use Rattle.history.proofs.KindNumbers.{is-claim, is-transfer, is-withdrawal, is-grant, is-other}
+use Rattle.records.proofs.KindNumbers.{is-claim, is-transfer, is-withdrawal, is-grant, is-other}
 use Rattle.history.proofs.Replaying.{can-take, few-after, replays-claim, replays-transfer, replays-withdrawal, replays-grant, replays-other}
 use Rattle.history.proofs.Locals.{local, part, slice-at}
 use Rattle.history.proofs.Values.{R, machOf, number-is, lot-is, Records, machR, at-list, sv, places}

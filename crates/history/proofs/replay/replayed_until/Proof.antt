@@ -50,9 +50,9 @@ use Rattle.history.proofs.Loop.{tests, below, next-fits, less, less-wf}
 use Rattle.history.proofs.Locals.{local, part, slice-at}
 use Rattle.history.proofs.Values.{R, at-list, sv, word, refmut, refnum, refm, places, cell, spare}
 use Rattle.history.proofs.ReplayCalls.{RecordAt, reads-record, Replayed, replays}
-use Rattle.history.proofs.records.record_at.Symbol as record-at-def
-use Rattle.history.proofs.records.record_at.Symbol.{name as #record-at}
-use Rattle.history.proofs.records.record_at.Met as record-at-thm
+use Rattle.records.proofs.record_at.Symbol as record-at-def
+use Rattle.records.proofs.record_at.Symbol.{name as #record-at}
+use Rattle.records.proofs.record_at.Met as record-at-thm
 use Rattle.history.proofs.replay.replayed.Symbol as replayed-def
 use Rattle.history.proofs.replay.replayed.Symbol.{name as #replayed}
 use Rattle.history.proofs.replay.replayed.Met as replayed-thm
@@ -204,5 +204,5 @@ replayed-until-spec 𝓤 H 𝓜 𝓖 𝓡 =
     entered 𝓤 H (tripleOf 𝓤 H (𝓖 .A) f.signature (f.spec 𝓤 H (𝓖 .A) (𝓜 .mem) (𝓡 .run)))
     (tables 𝓤 H 𝓜 𝓡 code.env .C) (tables 𝓤 H 𝓜 𝓡 code.env .Λ) #replayed-until code.function (code.unfolded 𝓤 H 𝓜 𝓡)
     (replayed-until-meets 𝓤 H (𝓖 .A) (givenOf 𝓤 H 𝓜 𝓖) (𝓜 .mem) (𝓡 .run) (tablesOf 𝓤 H 𝓜 (tables 𝓤 H 𝓜 𝓡 code.env))
-    (cited 𝓤 H (RecordAt 𝓤 H (𝓖 .A) (𝓜 .mem) (𝓡 .run)) 𝓜 𝓡 code.env #record-at record-at-def.routine code.calls-history·records·record-at (record-at-thm.met 𝓤 H 𝓜 𝓖 𝓡))
+    (cited 𝓤 H (RecordAt 𝓤 H (𝓖 .A) (𝓜 .mem) (𝓡 .run)) 𝓜 𝓡 code.env #record-at record-at-def.routine code.calls-records·record-at (record-at-thm.met 𝓤 H 𝓜 𝓖 𝓡))
     (cited 𝓤 H (Replayed 𝓤 H (𝓖 .A) (𝓜 .mem) (𝓡 .run)) 𝓜 𝓡 code.env #replayed replayed-def.routine code.calls-history·replay·replayed (replayed-thm.met 𝓤 H 𝓜 𝓖 𝓡)))

@@ -53,9 +53,9 @@ use Rattle.history.proofs.replay.payment_at.Met as payment-at-thm
 use Rattle.history.proofs.replay.replayed_until.Symbol as replayed-until-def
 use Rattle.history.proofs.replay.replayed_until.Symbol.{name as #replayed-until}
 use Rattle.history.proofs.replay.replayed_until.Met as replayed-until-thm
-use Rattle.history.proofs.records.record_at.Symbol as record-at-def
-use Rattle.history.proofs.records.record_at.Symbol.{name as #record-at}
-use Rattle.history.proofs.records.record_at.Met as record-at-thm
+use Rattle.records.proofs.record_at.Symbol as record-at-def
+use Rattle.records.proofs.record_at.Symbol.{name as #record-at}
+use Rattle.records.proofs.record_at.Met as record-at-thm
 use Rattle.history.proofs.work.take_from.Symbol as take-from-def
 use Rattle.history.proofs.work.take_from.Symbol.{name as #take-from}
 use Rattle.history.proofs.work.take_from.Met as take-from-thm
@@ -186,7 +186,7 @@ traced-spec 𝓤 H 𝓜 𝓖 𝓡 =
     (traced-meets 𝓤 H (𝓖 .A) (givenOf 𝓤 H 𝓜 𝓖) (𝓜 .mem) (𝓡 .run) (tablesOf 𝓤 H 𝓜 (tables 𝓤 H 𝓜 𝓡 code.env))
     (cited 𝓤 H (PaymentAt 𝓤 H (𝓖 .A) (𝓜 .mem) (𝓡 .run)) 𝓜 𝓡 code.env #payment-at payment-at-def.routine code.calls-history·replay·payment-at (payment-at-thm.met 𝓤 H 𝓜 𝓖 𝓡))
     (cited 𝓤 H (ReplayedUntil 𝓤 H (𝓖 .A) (𝓜 .mem) (𝓡 .run)) 𝓜 𝓡 code.env #replayed-until replayed-until-def.routine code.calls-history·replay·replayed-until (replayed-until-thm.met 𝓤 H 𝓜 𝓖 𝓡))
-    (cited 𝓤 H (RecordAt 𝓤 H (𝓖 .A) (𝓜 .mem) (𝓡 .run)) 𝓜 𝓡 code.env #record-at record-at-def.routine code.calls-history·records·record-at (record-at-thm.met 𝓤 H 𝓜 𝓖 𝓡))
+    (cited 𝓤 H (RecordAt 𝓤 H (𝓖 .A) (𝓜 .mem) (𝓡 .run)) 𝓜 𝓡 code.env #record-at record-at-def.routine code.calls-records·record-at (record-at-thm.met 𝓤 H 𝓜 𝓖 𝓡))
     (cited 𝓤 H (TakeFrom 𝓤 H (𝓖 .A) (𝓜 .mem) (𝓡 .run)) 𝓜 𝓡 code.env #take-from take-from-def.routine code.calls-history·work·take-from (take-from-thm.met 𝓤 H 𝓜 𝓖 𝓡))
     (cited 𝓤 H (Join 𝓤 H (𝓖 .A) (𝓜 .mem) (𝓡 .run)) 𝓜 𝓡 code.env #join join-def.routine code.calls-history·work·join (join-thm.met 𝓤 H 𝓜 𝓖 𝓡))
     (cited 𝓤 H (Clear 𝓤 H (𝓖 .A) (𝓜 .mem) (𝓡 .run)) 𝓜 𝓡 code.env #clear clear-def.routine code.calls-history·rows·clear (clear-thm.met 𝓤 H 𝓜 𝓖 𝓡)))

@@ -1,0 +1,4 @@
+pub mod KindNumbers
+pub mod Following
+pub mod Counting
+pub mod Once
