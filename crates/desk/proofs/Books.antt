@@ -25,7 +25,7 @@ use Rattle.rules.specs.Answer.{Outcome, answer, replyNumber, replyWith, doneAns
 use Rattle.rules.proofs.Laying.{length-rows, lay-edited}
 use Rattle.rules.proofs.Shapes.{depositSound, paymentSound, recordSound}
 use Rattle.rules.proofs.Tests.{both, all-at, ands-at}
-use Rattle.rules.proofs.Facts.{Accepted}
+use Rattle.rules.specs.Facts.{Accepted}
 use Rattle.rules.proofs.Accepts.{accepted-frame, not-done}
 use Rattle.tables.specs.Rows.{putAt}
 use Rattle.desk.specs.Parts.{isDone, ofEight}

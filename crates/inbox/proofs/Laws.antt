@@ -26,7 +26,7 @@ use Rattle.rules.specs.Frame.{inFrame}
 use Rattle.rules.specs.Answer.{frameTest, replyNumber, bookOf}
 use Rattle.rules.proofs.Laying.{length-rows, lay-edited}
 use Rattle.rules.proofs.Shapes.{depositSound}
-use Rattle.rules.proofs.Facts.{Within, Accepted, DepositFit, ClaimFit}
+use Rattle.rules.specs.Facts.{Within, Accepted, DepositFit, ClaimFit}
 use Rattle.rules.proofs.Tests.{both-of, true-within}
 use Rattle.rules.proofs.Accepts.{fit, accepted-frame}
 use Rattle.tables.specs.Rows.{bare, putAt, takenOut, placeOf}

@@ -12,7 +12,7 @@ use Rattle.rules.specs.Limits.{ceiling, highestNumber}
 use Rattle.rules.specs.Lists.{all}
 use Rattle.rules.specs.Frame.{upToCeiling}
 use Rattle.rules.specs.Effects.{raised, credit}
-use Rattle.rules.proofs.Facts.{Within}
+use Rattle.rules.specs.Facts.{Within}
 use Rattle.desk.specs.Kept.{withLists, withCounts}
 
 -- the desk with another last number

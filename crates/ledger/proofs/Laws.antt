@@ -25,7 +25,7 @@ use Rattle.rules.specs.Effects.{balance, credit, debit, holder, effect, balance
 use Rattle.rules.specs.Frame.{upToCeiling, inFrame}
 use Rattle.rules.specs.Answer.{frameTest, replyNumber, answer, bookOf, outcomeOf, doneAnswer, piecesOf}
 use Rattle.rules.proofs.Laying.{length-rows}
-use Rattle.rules.proofs.Facts.{Within, Accepted, TransferFit, GrantFit}
+use Rattle.rules.specs.Facts.{Within, Accepted, TransferFit, GrantFit}
 use Rattle.rules.proofs.Tests.{both-of, true-within, all-at, all-set}
 use Rattle.rules.proofs.Accepts.{fit, accepted-frame}
 use Rattle.tables.specs.Rows.{putAt}

@@ -10,7 +10,7 @@ use Rattle.rules.specs.Limits.{ceiling}
 use Rattle.rules.specs.Lists.{all}
 use Rattle.rules.specs.Frame.{upToCeiling}
 use Rattle.rules.specs.Effects.{balance, credit, debit}
-use Rattle.rules.proofs.Facts.{Within}
+use Rattle.rules.specs.Facts.{Within}
 use Rattle.desk.specs.Kept.{withLists, withCounts}
 use lib.ListN.{set}
 

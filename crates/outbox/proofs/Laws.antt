@@ -26,7 +26,7 @@ use Rattle.rules.specs.Frame.{hasRows, upToCeiling, paymentInLimits, noncesRise
 use Rattle.rules.specs.Answer.{frameTest, replyNumber, bookOf}
 use Rattle.rules.proofs.Laying.{length-rows, take-rows, drop-rows, lay-edited}
 use Rattle.rules.proofs.Shapes.{paymentSound}
-use Rattle.rules.proofs.Facts.{Accepted, WithdrawalFit, SendFit, SettleFit}
+use Rattle.rules.specs.Facts.{Accepted, WithdrawalFit, SendFit, SettleFit}
 use Rattle.rules.proofs.Tests.{both, both-of, within-true, true-within, all-at}
 use Rattle.rules.proofs.Accepts.{fit, accepted-frame}
 use Rattle.tables.specs.Rows.{putAt, takenOut}

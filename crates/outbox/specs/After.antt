@@ -12,7 +12,7 @@ use Rattle.rules.specs.Limits.{ceiling}
 use Rattle.rules.specs.Lists.{all}
 use Rattle.rules.specs.Frame.{upToCeiling}
 use Rattle.rules.specs.Effects.{balance, debit, raised}
-use Rattle.rules.proofs.Facts.{Within}
+use Rattle.rules.specs.Facts.{Within}
 use Rattle.desk.specs.Kept.{withLists}
 
 -- the payment whose four numbers lie in a table from a place on

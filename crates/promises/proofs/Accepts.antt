@@ -15,7 +15,7 @@ use Rattle.rules.specs.Refusals.{full, refusals, traceRefusals}
 use Rattle.rules.specs.Effects.{balance, holder, total, oldest}
 use Rattle.rules.specs.History.{withdrawals, historyInFrame}
 use Rattle.rules.specs.Answer.{frameTest, replyNumber}
-use Rattle.rules.proofs.Facts.{Accepted, Fit}
+use Rattle.rules.specs.Facts.{Accepted, Fit}
 use Rattle.rules.proofs.Tests.{true-within, noneApplies, nothing-smallest}
 use Rattle.rules.proofs.Accepts.{fit}
 use Rattle.promises.proofs.Framed.{Framed, framed}

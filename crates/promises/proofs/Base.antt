@@ -10,7 +10,7 @@ use Rattle.rules.specs.Replies.{Reply, told, if-done}
 use Rattle.rules.specs.Effects.{effect}
 use Rattle.rules.specs.Answer.{replyNumber, doneAnswer, piecesOf, bookOf, answer}
 use Rattle.rules.specs.Runs.{bookAfter, run, gather}
-use Rattle.rules.proofs.Facts.{Accepted}
+use Rattle.rules.specs.Facts.{Accepted}
 use Rattle.rules.proofs.Accepts.{not-done}
 use Rattle.promises.specs.Promises.{Unchanged}
 

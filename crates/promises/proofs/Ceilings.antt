@@ -11,7 +11,7 @@ use Rattle.rules.specs.Lists.{all}
 use Rattle.rules.specs.State.{State}
 use Rattle.rules.specs.Effects.{balance, total}
 use Rattle.rules.specs.Frame.{upToCeiling}
-use Rattle.rules.proofs.Facts.{Within}
+use Rattle.rules.specs.Facts.{Within}
 use Rattle.rules.proofs.Tests.{true-within, all-at, all-of}
 use Rattle.promises.proofs.Sums.{in-sum}
 use Rattle.promises.proofs.Lengths.{Lengths}

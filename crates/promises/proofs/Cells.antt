@@ -11,7 +11,7 @@ use lib.Seq.{getD-set-same, getD-set-other}
 use borrow.Author.Tests.{eqb-true, eqb-false}
 use Rattle.rules.specs.Limits.{within, assetCount, domainCount}
 use Rattle.rules.specs.Effects.{cell, balance, credit, debit, holder, total, raised}
-use Rattle.rules.proofs.Facts.{Within}
+use Rattle.rules.specs.Facts.{Within}
 use Rattle.rules.proofs.Tests.{within-true, true-within}
 
 -- ---- balances

@@ -9,7 +9,7 @@ use Rattle.rules.specs.Effects.{effect}
 use Rattle.rules.specs.Runs.{run, gather, itself, accepted}
 use Rattle.rules.proofs.Laying.{joined-append}
 use Rattle.rules.proofs.Shapes.{view-laid}
-use Rattle.rules.proofs.Facts.{Accepted}
+use Rattle.rules.specs.Facts.{Accepted}
 use Rattle.promises.proofs.Base.{run-keeps}
 
 -- ---- lists of what is seen

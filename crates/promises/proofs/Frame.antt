@@ -13,7 +13,7 @@ use Rattle.rules.specs.State.{Outside, State, payments}
 use Rattle.rules.specs.Effects.{effect, holdersAfter, total, raised, deposited, withdrawn, sent, settledOne, outsideAfter, recordsOf}
 use Rattle.rules.specs.Frame.{upToCeiling}
 use Rattle.rules.specs.History.{isWithdrawal, withdrawals}
-use Rattle.rules.proofs.Facts.{Fit}
+use Rattle.rules.specs.Facts.{Fit}
 use Rattle.rules.proofs.Tests.{true-within, all-set}
 use Rattle.promises.proofs.Framed.{Framed}
 use Rattle.promises.proofs.Lengths.{Lengths}

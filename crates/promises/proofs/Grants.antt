@@ -7,7 +7,7 @@ use Rattle.rules.specs.Limits.{domainCount}
 use Rattle.rules.specs.State.{State}
 use Rattle.rules.specs.Effects.{effect, holder, holdersAfter, recordsOf}
 use Rattle.rules.specs.History.{kindOf}
-use Rattle.rules.proofs.Facts.{Within, Fit}
+use Rattle.rules.specs.Facts.{Within, Fit}
 use Rattle.promises.specs.Demand2.{heldAs, heldAfter, holderBy}
 use Rattle.promises.proofs.Cells.{holder-set}
 use Rattle.promises.proofs.Lengths.{Lengths}

@@ -13,7 +13,7 @@ use Rattle.rules.specs.State.{State}
 use Rattle.rules.specs.Effects.{effect, balance, balancesAfter, holder, holdersAfter, matches, recordsOf}
 use Rattle.rules.specs.Frame.{numbersRise}
 use Rattle.rules.specs.History.{kindOf, provenanceOf, Standing, emptyStanding, standingAs, standingAfter, fitsAs, fits, replays}
-use Rattle.rules.proofs.Facts.{Within, ClaimFit, Fit}
+use Rattle.rules.specs.Facts.{Within, ClaimFit, Fit}
 use Rattle.lots.specs.Traces.{standingThrough}
 use Rattle.lots.proofs.Agreement.{balance-provenance}
 use Rattle.rules.proofs.Tests.{both, true-within}

@@ -14,7 +14,7 @@ use Rattle.rules.specs.Tables.{edited}
 use Rattle.rules.specs.State.{State}
 use Rattle.rules.specs.Effects.{effect, matches, inboxEdit, deposited, withdrawn, sent, settledOne, outsideAfter}
 use Rattle.rules.specs.Frame.{depositInLimits, numbersRise}
-use Rattle.rules.proofs.Facts.{Within, Fit}
+use Rattle.rules.specs.Facts.{Within, Fit}
 use Rattle.rules.proofs.Tests.{both, true-within}
 use Rattle.promises.proofs.Framed.{Framed}
 use Rattle.promises.proofs.Lists.{all-add, all-without, length-without}

@@ -15,7 +15,7 @@ use Rattle.rules.specs.State.{State, Book, Empty, view}
 use Rattle.rules.specs.Effects.{effect, holder, holdersAfter}
 use Rattle.rules.specs.Runs.{run}
 use Rattle.rules.specs.Views.{namesMember, seenBy}
-use Rattle.rules.proofs.Facts.{Within, GrantFit, Fit}
+use Rattle.rules.specs.Facts.{Within, GrantFit, Fit}
 use Rattle.rules.proofs.Accepts.{fit}
 use Rattle.rules.proofs.Tests.{within-true, true-within}
 use Rattle.promises.proofs.MemberUnwinding.{member-unwound}

@@ -9,7 +9,7 @@ use Rattle.rules.specs.State.{State, Book, Empty, view}
 use Rattle.rules.specs.Effects.{effect}
 use Rattle.rules.specs.Runs.{run, accepted}
 use Rattle.rules.specs.Views.{namesMember, seenBy}
-use Rattle.rules.proofs.Facts.{Accepted}
+use Rattle.rules.specs.Facts.{Accepted}
 use Rattle.promises.proofs.Base.{view-empty}
 use Rattle.promises.proofs.Demand3Unwinding.{those-joined, shownBy, unwound}
 

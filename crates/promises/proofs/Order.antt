@@ -13,7 +13,7 @@ use Rattle.rules.specs.State.{Outside, Book, view}
 use Rattle.rules.specs.Effects.{effect, total, oldest, paymentOf, deposited, withdrawn, sent, settledOne, outsideAfter}
 use Rattle.rules.specs.Runs.{depositing, sending, settling}
 use Rattle.rules.specs.Sheet.{upFrom, depositedIn, paidIn}
-use Rattle.rules.proofs.Facts.{Accepted, Within, DepositFit, SendFit, SettleFit}
+use Rattle.rules.specs.Facts.{Accepted, Within, DepositFit, SendFit, SettleFit}
 use Rattle.promises.specs.Demand2.{nonceOf}
 use Rattle.rules.proofs.Accepts.{fit}
 use Rattle.promises.proofs.Cells.{total-raised}

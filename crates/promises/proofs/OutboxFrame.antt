@@ -13,7 +13,7 @@ use Rattle.rules.specs.Lists.{all}
 use Rattle.rules.specs.State.{Outside, State, payments}
 use Rattle.rules.specs.Effects.{effect, paymentOf, deposited, withdrawn, sent, settledOne, outsideAfter}
 use Rattle.rules.specs.Frame.{paymentInLimits, noncesFrom, noncesRise}
-use Rattle.rules.proofs.Facts.{Within, Fit}
+use Rattle.rules.specs.Facts.{Within, Fit}
 use Rattle.rules.proofs.Tests.{both, true-within}
 use Rattle.promises.proofs.Framed.{Framed}
 use Rattle.promises.proofs.Sheet.{sent-payments}

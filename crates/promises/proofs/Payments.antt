@@ -13,7 +13,7 @@ use Rattle.rules.specs.History.{isWithdrawal, withdrawals}
 use Rattle.rules.specs.Runs.{run, itself, accepted}
 use Rattle.rules.proofs.Shapes.{view-laid}
 use Rattle.rules.proofs.Laying.{joined-append}
-use Rattle.rules.proofs.Facts.{Accepted}
+use Rattle.rules.specs.Facts.{Accepted}
 use Rattle.lots.specs.Traces.{nthWithdrawal}
 use Rattle.lots.proofs.ListLaws.{those-append}
 use Rattle.promises.specs.Demand2.{queueing, queued, waitingIn, noPayment, made, paymentBy}

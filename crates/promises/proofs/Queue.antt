@@ -14,7 +14,7 @@ use Rattle.rules.specs.Replies.{told, if-done}
 use Rattle.rules.specs.Effects.{effect, oldest, paymentOf, deposited, withdrawn, sent, settledOne, outsideAfter}
 use Rattle.rules.specs.Answer.{replyNumber, doneAnswer, answer}
 use Rattle.rules.specs.Runs.{bookAfter, run, gather, sending, sends, sentAfter}
-use Rattle.rules.proofs.Facts.{Accepted, SendFit}
+use Rattle.rules.specs.Facts.{Accepted, SendFit}
 use Rattle.promises.specs.Demand2.{queueing, queued, isSend, sendCalls, waitingIn, noPayment}
 use Rattle.promises.specs.Promises.{Queue}
 use Rattle.rules.proofs.Accepts.{fit}

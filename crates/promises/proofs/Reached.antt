@@ -16,7 +16,7 @@ use Rattle.rules.specs.History.{emptyStanding, replays, withdrawals}
 use Rattle.rules.specs.Runs.{run, gather}
 use Rattle.rules.specs.Sheet.{upFrom}
 use Rattle.rules.proofs.Shapes.{view-laid}
-use Rattle.rules.proofs.Facts.{Accepted, Within, Fit}
+use Rattle.rules.specs.Facts.{Accepted, Within, Fit}
 use Rattle.lots.specs.Traces.{standingThrough}
 use Rattle.promises.specs.Demand2.{heldAfter}
 use Rattle.rules.proofs.Tests.{true-within}

@@ -18,7 +18,7 @@ use Rattle.rules.specs.Frame.{inFrame}
 use Rattle.rules.specs.History.{historyInFrame, provenanceOf}
 use Rattle.rules.specs.Lots.{pieces}
 use Rattle.rules.specs.Answer.{badHistory, frameTest, replyNumber, traceNumber, traceAnswer, provenanceNumber, provenanceAnswer}
-use Rattle.rules.proofs.Facts.{Within}
+use Rattle.rules.specs.Facts.{Within}
 use Rattle.rules.proofs.Tests.{true-within, not-holds, noneApplies, nothing-smallest}
 use Rattle.promises.specs.Promises.{InFrame, ByHistory}
 use Rattle.promises.proofs.Replies.{smallest-own, one-passes, reply-with, reply-number}

@@ -15,7 +15,7 @@ use Rattle.rules.specs.State.{Outside, State, payments}
 use Rattle.rules.specs.Effects.{effect, debit, balancesAfter, matches, inboxEdit, total, oldest, paymentOf, deposited, withdrawn, sent, settledOne, outsideAfter}
 use Rattle.rules.specs.Frame.{paymentInLimits}
 use Rattle.rules.specs.Sheet.{depositedIn, paidIn}
-use Rattle.rules.proofs.Facts.{Within, Fit}
+use Rattle.rules.specs.Facts.{Within, Fit}
 use Rattle.rules.proofs.Tests.{both, within-true}
 use Rattle.promises.proofs.Framed.{Framed}
 use Rattle.promises.proofs.Cells.{length-debit, total-raised}

@@ -10,7 +10,7 @@ use Rattle.rules.specs.State.{State, Book, view, emptyState, Empty}
 use Rattle.rules.specs.Effects.{effect, matches, inboxEdit, recordsOf}
 use Rattle.rules.specs.Runs.{run, depositing, deposits}
 use Rattle.rules.proofs.Digits.{all-append, all-imply}
-use Rattle.rules.proofs.Facts.{Accepted, ClaimFit}
+use Rattle.rules.specs.Facts.{Accepted, ClaimFit}
 use Rattle.rules.proofs.Tests.{both}
 use Rattle.rules.proofs.Accepts.{fit}
 use Rattle.lots.specs.Traces.{claimsDeposit, isNamed}

@@ -13,7 +13,7 @@ use Rattle.rules.specs.Limits.{memberCount, assetCount}
 use Rattle.rules.specs.Lists.{any, indexOf, sumOf}
 use Rattle.rules.specs.Effects.{balance, credit, debit}
 use Rattle.rules.specs.Sheet.{upFrom}
-use Rattle.rules.proofs.Facts.{Within}
+use Rattle.rules.specs.Facts.{Within}
 use Rattle.rules.proofs.Tests.{both, true-within}
 use Rattle.lots.proofs.ListLaws.{sum-append}
 use Rattle.lots.proofs.BalanceLaws.{balance-credit, balance-debit}

@@ -13,7 +13,7 @@ use Rattle.rules.specs.Lots.{pieces}
 use Rattle.rules.specs.Answer.{piecesOf, doneAnswer, answer}
 use Rattle.rules.specs.Runs.{run, deposits}
 use Rattle.rules.proofs.Digits.{all-imply}
-use Rattle.rules.proofs.Facts.{Accepted}
+use Rattle.rules.specs.Facts.{Accepted}
 use Rattle.lots.specs.Traces.{coins, isNamed, claimsDeposit, nthWithdrawal, beforePayment, afterPayment, Traced}
 use Rattle.lots.proofs.ListLaws.{any-append}
 use Rattle.lots.proofs.TraceLaws.{payment-at, trace-sound}

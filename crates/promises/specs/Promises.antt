@@ -7,7 +7,7 @@ use mathlib.Core.List.{List, [], _∷_, _++_, map}
 use lib.Dec.{leb, eqb}
 use lib.ListN.{length, getD, take, drop}
 use Rattle.promises.specs.Types.{Nonce, Lot, Call, Line, Answer}
-use Rattle.rules.proofs.Facts.{Accepted, Within, Fit}
+use Rattle.rules.specs.Facts.{Accepted, Within, Fit}
 use Rattle.rules.specs.Limits.{memberCount, assetCount, domainCount, historyRows, highestField, mostLines}
 use Rattle.rules.specs.Lists.{all, any, joined}
 use Rattle.rules.specs.State.{Book, Empty, view, historyOf, emptyBook}

@@ -14,7 +14,7 @@ use Rattle.rules.specs.Tables.{rowsOf, recordShape}
 use Rattle.rules.specs.Effects.{cell, balance, credit, debit}
 use Rattle.rules.specs.History.{Kind, kindOf, Standing as Replayed, emptyStanding, standingAs, standingAfter, fitsAs, fits, replays}
 use Rattle.rules.specs.State.{emptyState}
-use Rattle.rules.proofs.Facts.{Within}
+use Rattle.rules.specs.Facts.{Within}
 use Rattle.rules.proofs.Tests.{both, both-of, within-true, true-within, all-at, all-set}
 use Rattle.rules.proofs.Digits.{all-imply}
 use Rattle.tables.proofs.Rest.{passes, rest, rowAt, rest-all, passes-fails, passes-goes, passes-end}

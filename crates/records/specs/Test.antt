@@ -9,7 +9,7 @@ use Rattle.rules.specs.Limits.{ceiling, historyRows}
 use Rattle.rules.specs.Lists.{all}
 use Rattle.rules.specs.Tables.{rowsOf, recordShape}
 use Rattle.rules.specs.History.{Standing as Replayed, fits, historyInFrame}
-use Rattle.rules.proofs.Facts.{Within}
+use Rattle.rules.specs.Facts.{Within}
 use Rattle.tables.specs.Rows.{lieWithin}
 
 -- what the code carries, as the rules have it

@@ -19,7 +19,7 @@ use Rattle.rules.specs.Frame.{inFrame}
 use Rattle.rules.specs.History.{withdrawals, historyInFrame}
 use Rattle.rules.specs.Answer.{frameTest, replyNumber, answer}
 use Rattle.rules.proofs.Shapes.{view-laid}
-use Rattle.rules.proofs.Facts.{Accepted, Within, DepositFit, ClaimFit, TransferFit, WithdrawalFit, SendFit, SettleFit, GrantFit, SignFit, TraceFit, Fit}
+use Rattle.rules.specs.Facts.{Accepted, Within, DepositFit, ClaimFit, TransferFit, WithdrawalFit, SendFit, SettleFit, GrantFit, SignFit, TraceFit, Fit}
 use Rattle.rules.proofs.Tests.{twice-not, not-holds, neither, within-true, all-at, numbered, none-applies}
 
 -- ---- what acceptance gives

@@ -7,7 +7,6 @@ pub mod Readings
 pub mod FrameCases
 pub mod Digits
 pub mod ReadBack
-pub mod Facts
 pub mod Tests
 pub mod Accepts
 pub mod Told

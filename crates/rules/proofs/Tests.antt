@@ -10,7 +10,7 @@ use borrow.Author.Tests.{leb-true, le-leb}
 use Rattle.rules.specs.Limits.{within}
 use Rattle.rules.specs.Lists.{all, ands}
 use Rattle.rules.specs.Replies.{smaller, smallest}
-use Rattle.rules.proofs.Facts.{Within}
+use Rattle.rules.specs.Facts.{Within}
 
 -- ---- one test
 -- both of two tests hold

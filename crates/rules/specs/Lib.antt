@@ -20,3 +20,4 @@ pub mod Cases
 pub mod Session
 pub mod Readings
 pub mod FrameCases
+pub mod Facts

@@ -18,7 +18,7 @@ use Rattle.rules.specs.declared.answers.Refusal.{Refusal}
 use Rattle.rules.specs.State.{Book, view, historyOf}
 use Rattle.rules.specs.Replies.{told, if-done}
 use Rattle.rules.specs.Answer.{Outcome, answer, replyNumber, replyWith, piecesOf, doneAnswer}
-use Rattle.rules.proofs.Facts.{Accepted}
+use Rattle.rules.specs.Facts.{Accepted}
 use Rattle.rules.proofs.Accepts.{accepted-frame}
 use Rattle.lots.proofs.LotCounts.{pieces-count}
 use Rattle.lots.proofs.TraceJoin.{records-fit}

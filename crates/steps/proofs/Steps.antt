@@ -17,7 +17,7 @@ use Rattle.rules.specs.Effects.{effect, balancesAfter, holdersAfter, inboxEdit,
 use Rattle.rules.specs.Lots.{pieces}
 use Rattle.rules.specs.Answer.{answer, outcomeOf, replyNumber, replyWith, doneAnswer, piecesOf, traceAnswer, TraceOutcome}
 use Rattle.rules.proofs.Laying.{length-rows}
-use Rattle.rules.proofs.Facts.{Accepted}
+use Rattle.rules.specs.Facts.{Accepted}
 use Rattle.rules.proofs.Accepts.{accepted-frame}
 use Rattle.desk.proofs.Books.{Framed, framed, inbox-kept, outbox-kept, history-kept, inbox-count, outbox-count, flight-count, history-count}
 use Rattle.history.specs.Tracing.{traceOutcomeOf}

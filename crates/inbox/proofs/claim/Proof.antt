@@ -8,7 +8,7 @@ use Rattle.rules.specs.State.{Book, inboxOf}
 use Rattle.rules.specs.Replies.{told}
 use Rattle.rules.specs.Effects.{matches}
 use Rattle.rules.specs.Answer.{bookOf, doneAnswer, piecesOf}
-use Rattle.rules.proofs.Facts.{Accepted}
+use Rattle.rules.specs.Facts.{Accepted}
 use Rattle.rules.proofs.Accepts.{accepted-frame}
 use Rattle.desk.proofs.Books.{Framed, refuses, accepts, lays-plain, framed}
 use Rattle.inbox.specs.After.{CanClaim}

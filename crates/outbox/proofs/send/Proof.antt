@@ -5,7 +5,7 @@ use Rattle.rules.specs.declared.calls.Call.{Call}
 use Rattle.rules.specs.State.{Book}
 use Rattle.rules.specs.Replies.{told}
 use Rattle.rules.specs.Answer.{bookOf, doneAnswer, piecesOf}
-use Rattle.rules.proofs.Facts.{Accepted}
+use Rattle.rules.specs.Facts.{Accepted}
 use Rattle.rules.proofs.Accepts.{accepted-frame}
 use Prim.Native.Nat.{_≤_, _<_}
 use Rattle.rules.specs.declared.answers.Answer.{Answer}

@@ -2,7 +2,7 @@ use mathlib.Core.Path.{_≡_, sym, _∙_}
 use native.Mathlib.Omega.{arith}
 use Rattle.rules.specs.Limits.{isMember, isAsset}
 use Rattle.rules.specs.Effects.{balance}
-use Rattle.rules.proofs.Facts.{Within}
+use Rattle.rules.specs.Facts.{Within}
 use Rattle.rules.proofs.Tests.{both, within-true}
 use borrow.Author.Needs.{needs}
 use Rattle.desk.proofs.fields.balance_of.Statement.{statement}
