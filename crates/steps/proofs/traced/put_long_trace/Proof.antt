@@ -1,6 +1,5 @@
--- `steps::traced::put_long_trace` meets its contract: a walk of its MIR, by hand. Two arrays of lots are made in locals, lent to `put_traced`, and freed (`Proof/Calls.antt`). Its parameters are plain, so whoever calls it needs no walk.
+-- `steps::traced::put_long_trace` meets its contract: a walk of its MIR, by hand. Two arrays of lots are made in locals, lent to `put_traced`, and freed (`traced/Calls.antt`). Its parameters are plain, so whoever calls it needs no walk.
 -- Assumes nothing.
-mod Calls
 use mathlib.Core.Path.{_≡_, refl}
 use Prim.Native.Nat.{ℕ, _<_, _≤_, _^_, _-_}
 use native.Mathlib.Omega.{arith}
@@ -65,7 +64,7 @@ use Rattle.steps.specs.Step.{HasTables, repliedOf, replied}
 use Rattle.steps.proofs.step.Stepped as St
 use Rattle.steps.proofs.step.Stepped.Laws as St′
 use Rattle.steps.proofs.LineCalls.{Steps, machS}
-use Rattle.steps.proofs.traced.put_long_trace.Proof.Calls.{PutTraced, puts-traced}
+use Rattle.steps.proofs.traced.Calls.{PutTraced, puts-traced}
 use Rattle.steps.proofs.traced.put_traced.Symbol as put-traced-def
 use Rattle.steps.proofs.traced.put_traced.Symbol.{name as #put-traced}
 use Rattle.steps.proofs.traced.put_traced.Met as put-traced-thm

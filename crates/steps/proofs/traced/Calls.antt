@@ -1,4 +1,4 @@
--- The call that `put_long_trace` makes, as a step of a walk, as in `Rattle.history.proofs.LotCalls`.
+-- The call that `put_short_trace` and `put_long_trace` make, as a step of a walk, as in `Rattle.history.proofs.LotCalls`.
 --     puts-traced     `put_traced(d, inbox, outbox, history, &mut work, &mut pieces, out, at, line, n)`, where both tables are arrays of the caller's own: they are lent for the call and freed after it (`Rattle.history.proofs.Table`)
 -- Assumes `Given`.
 use mathlib.Core.Path.{_≡_, refl, sym, ap, subst}
