@@ -100,8 +100,8 @@ fn cut_in_two(l: Lot, s: Taking) -> Cut
     }
 }
 
-// "takes from the front of the sender's line until the amount is met": one pass over the rows. Those
-// that stay close up in place, and the pieces wait in the held table, in the order taken.
+// "takes from the front of the sender's line until the amount is met": rows are looked at until nothing
+// is due. Those that stay close up in place, and the pieces wait in the held table, in the order taken.
 pub fn take_from(
     work: &mut [Lot],
     used: usize,

@@ -1,3 +1,3 @@
--- What the contracts of the line reader and the reply writer cite, beside the rules' own definitions.
+-- What the contracts of the field reader and the line reader cite, beside the rules' own definitions.
 pub mod Reading
 pub mod Fours

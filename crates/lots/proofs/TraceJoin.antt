@@ -1,4 +1,4 @@
--- The two ways in which a trace is said are one: what a line of calls gets, and what the lent tables get, where both tables have a row for each record that a history can have.
+-- The two ways in which a trace is said are one: what a line of calls gets, and what the lent tables get, where both tables have a row for each record, if there are no more than a history can have.
 use Prim.Native.Nat.{ℕ, zero, suc, _≤_}
 use mathlib.Core.Path.{_≡_, refl, sym, _∙_}
 use mathlib.Core.Bool.{Bool, true, false, not, _||_, and-eq-true-iff}

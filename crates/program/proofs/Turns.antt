@@ -1,4 +1,4 @@
--- What a session begins with lets its first byte be fed.
+-- What a session begins with lets its first read be fed.
 use Prim.Native.Nat.{ℕ}
 use mathlib.Core.Path.{_≡_, ap, _∙_}
 use mathlib.Core.List.{List}

@@ -1,4 +1,4 @@
--- What is promised, in the order of the demands, from top to bottom. Each promise is said in words and then exactly; the words that it cites are those of the rules (crate rules; what an accepted call rests on: its proofs/Facts), of traces (crate lots), of the book runner (crate runner), and of Demand1, Demand2 and Carried beside this page.
+-- What is promised, in the order of the demands, from top to bottom. Each promise is said in words and then exactly; the words that it cites are those of the rules (crate rules; what an accepted call rests on: its specs/Facts), of traces (crate lots), of the book runner (crates steps and runner), and of Demand1, Demand2 and Carried beside this page.
 use Prim.Native.Nat.{ℕ, _+_, _≤_, _<_}
 use mathlib.Core.Path.{_≡_}
 use mathlib.Core.Logic.{_≢_, _↔_}

@@ -100,5 +100,5 @@ refusals s (Call.Grant g) =
     ∷ historyFull s
     ∷ []
 refusals s (Call.Sign g) = badMember (g .member) ∷ badDomain (g .domain) ∷ notHolder s (g .member) (g .domain) ∷ []
--- the book runner lends trace tables of as many rows as a history can have
+-- said as with tables of as many rows as a history can have: the book runner's have a row for each record
 refusals s (Call.Trace n) = traceRefusals historyRows historyRows s n

@@ -1,4 +1,4 @@
--- The machine of what is kept between bytes, and what lets a byte be fed.
+-- The machine of what is kept between reads, what lets a read be fed, and where its line feeds stand.
 use Prim.Native.Nat.{ℕ, _-_, _≤_, _<_}
 use mathlib.Core.Path.{_≡_}
 use mathlib.Core.Bool.{Bool, true, not}

@@ -1,4 +1,4 @@
-// The input byte after byte, however it is cut into reads.
+// The input line after line, however it is cut into reads.
 use crate::running::Running;
 use crate::running::answer_line;
 use lines::read::read_line;
@@ -24,7 +24,7 @@ ghost use Rattle.runner.specs.Feeding.{Ready, noFeed, NextFeed};
 ghost use Rattle.runner.specs.Running.{malformed};
 ghost use Rattle.runner.specs.Kept.{kept, RunSome, Closed};
 
-// What is kept between bytes: what is kept between lines, how many bytes of a line are held, and the
+// What is kept between reads: what is kept between lines, how many bytes of a line are held, and the
 // place up to which the output is written.
 pub struct Feeding {
     pub running: Running,

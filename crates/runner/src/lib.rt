@@ -1,4 +1,4 @@
-// The book runner: one call after another, line after line.
+// The book runner: line after line, and read after read.
 pub mod feed;
 pub mod running;
 pub mod start;

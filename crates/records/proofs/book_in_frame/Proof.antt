@@ -8,19 +8,19 @@ use Rattle.records.proofs.book_in_frame.Lts as lts
 use Rattle.frames.proofs.in_frame.Reads as in-frame-reads
 use Rattle.records.proofs.frame.history_in_frame.Reads as history-in-frame-reads
 
--- src/records.rt:36:5
+-- src/lib.rt:41:18
 counts-of-requires : tie.Need-counts-of-requires
 counts-of-requires c κs = search needs
 
--- src/records.rt:36:5
+-- src/lib.rt:42:18
 in-frame-requires : tie.Need-in-frame-requires
 in-frame-requires c κs = search needs
 
--- src/records.rt:36:43
+-- src/lib.rt:52:14
 history-in-frame-requires : tie.Need-history-in-frame-requires
 history-in-frame-requires c κs = search needs
 
--- src/records.rt:33:1
+-- src/lib.rt:38:1
 returns : tie.Need-returns
 returns c =
     let a = c .before .before .before .before .before .before .before .before .before .before .before .args in

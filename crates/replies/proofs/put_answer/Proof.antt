@@ -1,4 +1,4 @@
--- `write::put_answer`: the number alone, or the number and what the answer tells.
+-- `put_answer`: the number alone, or the number and what the answer tells.
 use mathlib.Core.Path.{ap}
 use mathlib.Core.List.{[], _∷_}
 use Rattle.rules.specs.declared.answers.Answer.{Answer}

@@ -1,4 +1,4 @@
--- `write::put_byte`: with room the byte is stored; without, storing changes nothing.
+-- `put_byte`: with room the byte is stored; without, storing changes nothing.
 use Rattle.replies.proofs.PageLaws.{byte-room, byte-none}
 use borrow.Author.Needs.{needs}
 use Rattle.replies.proofs.put_byte.Statement.{statement}

@@ -1,4 +1,4 @@
--- `write::put_bytes`: the first i bytes of the text are on the page.
+-- `put_bytes`: the first i bytes of the text are on the page.
 use Prim.Native.Nat.{_-_, _≤_}
 use mathlib.Core.Path.{_≡_, refl, _∙_}
 use lib.ListN.{length, take}

@@ -1,4 +1,4 @@
--- `write::put_end`: the word, two values, and the line feed.
+-- `put_end`: the word, two values, and the line feed.
 use mathlib.Core.List.{[], _∷_, _++_}
 use Rattle.rules.specs.Lists.{bytes}
 use Rattle.rules.specs.Lines.{lineFeed, tabbed}

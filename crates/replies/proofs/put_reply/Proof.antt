@@ -1,4 +1,4 @@
--- `write::put_reply`: the line number, and then the reply number after its tab.
+-- `put_reply`: the line number, and then the reply number after its tab.
 use mathlib.Core.List.{[], _∷_}
 use Rattle.rules.specs.Lines.{decimal, tabbed}
 use Rattle.replies.proofs.PageLaws.{put-then}

@@ -1,4 +1,4 @@
--- `write::put_reply_line`: the line's start, and its line feed.
+-- `put_reply_line`: the line's start, and its line feed.
 use mathlib.Core.List.{[], _∷_}
 use Rattle.rules.specs.Replies.{told}
 use Rattle.rules.specs.Lines.{lineFeed}

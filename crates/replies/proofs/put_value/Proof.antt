@@ -1,4 +1,4 @@
--- `write::put_value`: a tab, and then the number's decimal.
+-- `put_value`: a tab, and then the number's decimal.
 use mathlib.Core.List.{[], _∷_}
 use Rattle.rules.specs.Lines.{decimal}
 use Rattle.replies.proofs.PageLaws.{put-then, tabbed-one}

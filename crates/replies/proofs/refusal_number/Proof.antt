@@ -1,4 +1,4 @@
--- `write::refusal_number`: case by case of the definition.
+-- `refusal_number`: case by case of the definition.
 use mathlib.Core.Path.{sym, ap}
 use Rattle.rules.specs.Replies.{numberOf}
 use borrow.Author.Needs.{needs}

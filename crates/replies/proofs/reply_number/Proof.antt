@@ -1,4 +1,4 @@
--- `write::reply_number`: case by case of the definition.
+-- `reply_number`: case by case of the definition.
 use mathlib.Core.Path.{sym, ap, _∙_}
 use Rattle.rules.specs.declared.answers.Answer.{Answer}
 use Rattle.rules.specs.Replies.{told}
