@@ -1,7 +1,7 @@
 -- A line that is Malformed, and the end of the input: what is held of a last line is Malformed, and the tally comes last.
 use Prim.Native.Nat.{ℕ, zero, suc, _+_, _≤_, _<_}
-use mathlib.Core.Path.{_≡_, refl, sym, ap, _∙_}
-use mathlib.Core.List.{List, [], _∷_, _++_}
+use mathlib.Core.Path.{_≡_, refl}
+use mathlib.Core.List.{List, [], _∷_}
 use native.Mathlib.Omega.{arith}
 use lib.ListN.{length, take}
 use borrow.Author.Tests.{lt-ltb, le-ltb}
@@ -12,7 +12,7 @@ use Rattle.rules.specs.Transcript.{answerLine, replyText, tallied, endText}
 use Rattle.replies.specs.Writing.{Page, put, replyLine}
 use Rattle.replies.proofs.PageLaws.{put-then, reply-line}
 use Rattle.runner.specs.declared.running.Running.{Running}
-use Rattle.runner.specs.Machine.{Machine, outcomeFor, answered, unfinished, unfinishedText, ended, closing}
+use Rattle.runner.specs.Machine.{outcomeFor, answered, unfinished, unfinishedText, ended, closing}
 use Rattle.runner.specs.Running.{machineOf, Counted, malformed}
 
 -- ---- a line that is Malformed: the book is left as it was

@@ -1,25 +1,18 @@
 -- Any two results that a public function's contract allows coincide, and what a contract leaves open on purpose.
-use Prim.Native.Nat.{ℕ, _≤_}
+use Prim.Native.Nat.{ℕ}
 use mathlib.Core.Path.{_≡_, sym, ap, _∙_}
 use mathlib.Core.List.{List, []}
 use native.Mathlib.Omega.{arith}
 use lib.ListN.{length, take}
 use lib.Seq.{length-take-le}
-use Rattle.rules.specs.declared.calls.Call.{Call}
 use Rattle.rules.specs.declared.calls.Line.{Line}
-use Rattle.rules.specs.declared.answers.Tally.{Tally}
-use Rattle.rules.specs.State.{Book}
-use Rattle.rules.specs.Answer.{answer}
-use Rattle.rules.specs.Transcript.{answerLine, replyText, tallied}
-use Rattle.rules.proofs.Told.{once}
+use Rattle.rules.specs.Transcript.{replyText}
 use Rattle.replies.specs.Writing.{Page, page, put}
 use Rattle.replies.proofs.Once.{put-once}
 use Rattle.replies.proofs.PageLaws.{upto, bytes}
-use Rattle.steps.specs.declared.step.Stepped.{Stepped}
 use Rattle.runner.specs.declared.running.Running.{Running}
 use Rattle.runner.specs.declared.feed.Feeding.{Feeding}
 use Rattle.runner.specs.Machine.{Machine, outcomeFor, answered, feeds, writes}
-use Rattle.steps.specs.Step.{Replied, repliedOf, replied}
 use Rattle.runner.specs.Running.{machineOf}
 use Rattle.runner.specs.Feeding.{fedMachine, Ready, Closes, Begun}
 

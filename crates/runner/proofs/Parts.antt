@@ -1,21 +1,19 @@
 -- A part of a read fed at once: bytes that hold no line feed are held, and write nothing.
-use Prim.Native.Nat.{ℕ, zero, suc, _+_, _-_, _≤_, _<_}
+use Prim.Native.Nat.{ℕ, _+_, _-_, _≤_, _<_}
 use mathlib.Core.Path.{_≡_, refl, sym, ap, subst, _∙_}
 use mathlib.Core.Bool.{Bool, true, false, not, _&&_, cond}
-use mathlib.Core.Logic.{_≢_}
 use mathlib.Core.List.{List, [], _∷_, _++_, append-nil}
 use native.Mathlib.Numerals.{add-one}
 use native.Mathlib.Omega.{arith}
 use lib.Dec.{leb, eqb}
-use lib.ListN.{length, getD, take, drop, length-append, length-drop}
+use lib.ListN.{length, getD, take, drop, length-drop}
 use lib.Seq.{take-suc, take-add, take-all, take-length, getD-drop}
-use borrow.Author.Tests.{lt-ltb, le-ltb, ne-eqb, leb-true}
+use borrow.Author.Tests.{lt-ltb, le-ltb}
 use Rattle.rules.specs.Lists.{all}
 use Rattle.rules.specs.declared.calls.Line.{Line}
 use Rattle.rules.specs.Lines.{lineFeed, readLine}
 use Rattle.rules.specs.Transcript.{replyText}
-use Rattle.replies.specs.Writing.{Page, page, put}
-use Rattle.replies.proofs.PageLaws.{put-then, put-nothing}
+use Rattle.replies.specs.Writing.{page, put}
 use Rattle.runner.specs.declared.running.Running.{Running}
 use Rattle.runner.specs.declared.feed.Feeding.{Feeding}
 use Rattle.runner.specs.declared.feed.Fed.{Fed}
@@ -33,29 +31,13 @@ unfolding holds
 holds-more before [] b = refl
 holds-more before (x ∷ xs) b = holds-more (held-with before x) xs b
 
-all-more : (xs : List ℕ) (b : ℕ) → all noFeed xs ≡ true → noFeed b ≡ true → all noFeed (xs ++ (b ∷ [])) ≡ true
-unfolding all
-all-more [] b h g = rw g
-all-more (x ∷ xs) b h g = go (noFeed x) h (λ e. all-more xs b e g)
-  where
-    go : (t : Bool) → t && all noFeed xs ≡ true → (all noFeed xs ≡ true → all noFeed (xs ++ (b ∷ [])) ≡ true) → t && all noFeed (xs ++ (b ∷ [])) ≡ true
-    go true e f = f e
-    go false e f = e
-
 pub held-none : (before chunk : List ℕ) → before ≡ holds before (take 0 chunk)
 unfolding holds
 held-none before chunk = refl
 
-pub free-none : (chunk : List ℕ) → all noFeed (take 0 chunk) ≡ true
-unfolding all
-free-none chunk = refl
-
 module _ (before chunk : List ℕ) (k : ℕ) (here : k < length chunk) where
   pub held-next : {t u : List ℕ} → t ≡ holds before (take k chunk) → u ≡ held-with t (getD chunk k 0) → u ≡ holds before (take (k + 1) chunk)
   held-next e f = rw (add-one k, take-suc chunk k 0 here, holds-more before (take k chunk) (getD chunk k 0), ← e) f
-
-  pub free-next : all noFeed (take k chunk) ≡ true → getD chunk k 0 ≢ 10 → all noFeed (take (k + 1) chunk) ≡ true
-  free-next e n = rw (add-one k, take-suc chunk k 0 here) (all-more (take k chunk) (getD chunk k 0) e (rw (ne-eqb (getD chunk k 0) 10 n)))
 
 -- ---- such bytes fed
 module _ (run : Running) (i o h : List ℕ) where

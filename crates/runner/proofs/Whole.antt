@@ -1,17 +1,17 @@
 -- A line read where it lies is the line that would have been held: of a line over 120 bytes 121 are enough to refuse it. And where in a read the next line feed stands.
-use Prim.Native.Nat.{ℕ, zero, suc, _+_, _-_, _≤_, _<_}
+use Prim.Native.Nat.{ℕ, _+_, _-_, _≤_, _<_}
 use mathlib.Core.Path.{_≡_, refl, sym, ap, _∙_}
 use mathlib.Core.Bool.{Bool, true, false, not, _&&_, _||_, cond}
 use mathlib.Core.List.{List, [], _∷_, _++_, append-nil, append-assoc}
 use mathlib.Core.Logic.{_≢_}
 use native.Mathlib.Numerals.{add-one}
 use native.Mathlib.Omega.{arith}
-use lib.Dec.{leb, ltb, eqb}
+use lib.Dec.{ltb, eqb}
 use lib.ListN.{length, getD, take, drop, length-append, length-drop}
 use lib.Seq.{take-all, take-at, take-suc, take-add, length-take-le, getD-drop}
-use borrow.Author.Tests.{lt-ltb, le-ltb, lt-leb, le-leb, ne-eqb, ltb-true, ltb-false}
+use borrow.Author.Tests.{ne-eqb, ltb-true, ltb-false}
 use Rattle.rules.specs.Lists.{all}
-use Rattle.rules.specs.Lines.{lineFeed, readLine}
+use Rattle.rules.specs.Lines.{readLine}
 use Rattle.rules.proofs.Digits.{all-append}
 use Rattle.lines.proofs.LineLaws.{line-long}
 use Rattle.runner.specs.Machine.{held-with, holds}
