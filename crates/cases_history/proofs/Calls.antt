@@ -1,4 +1,4 @@
--- The calls that the functions over lent tables of lots make here, as steps of a walk, as in `Rattle.history.proofs.LotCalls`.
+-- The calls that the functions over lent tables of lots make here, as steps of a walk, as in `Rattle.takings.proofs.LotCalls`.
 --     mixes     `mixed(sum, l)`.        digests     `digest(lots)`
 --     sees     `traced(d, inbox, outbox, history, &mut work[..w], &mut pieces[..p], n)`, of two arrays of the caller's own, of which so many rows are lent (`Front.antt`)
 -- Assumes `Given`.
@@ -31,7 +31,7 @@ use denote.Triple.Spec.{tripleOf}
 use denote.Triple.Statement.{Contract, Triple}
 use denote.Triple.Call.{calls-at}
 use denote.Triple.Clauses.{ensured, lasts}
-use Rattle.history.proofs.Again.{SharedAgain, shares-again-n, shared-back-n}
+use Rattle.takings.proofs.Again.{SharedAgain, shares-again-n, shared-back-n}
 use mir.Syntax.{tyArray}
 use base.Fml.{fat, froom}
 use denote.RattleType.{RattleType}
@@ -45,8 +45,7 @@ use Rattle.rules.proofs.rows.Nonce as Nn
 use Rattle.rules.proofs.rows.Nonce.Laws as Nn′
 use Rattle.rules.proofs.desk.Desk as Dk
 use Rattle.rules.proofs.desk.Desk.Laws as Dk′
-use Rattle.history.proofs.Values.{R, machOf, Desks, machK, Nonces, machN, at-list, sv}
-use Rattle.history.proofs.trace.trace.Symbol.{name as #trace}
+use Rattle.takings.proofs.Values.{R, machOf, Desks, machK, Nonces, machN, at-list, sv}
 use Rattle.cases_history.specs.declared.Seen.{Seen}
 use Rattle.cases_history.proofs.Seen as Sn
 use Rattle.cases_history.proofs.Seen.Laws as Sn′

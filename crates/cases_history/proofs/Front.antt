@@ -15,7 +15,7 @@ use base.Logic.{ent, sep, ex}
 use base.Fml.{Lft, GName, Fml, ftrue, fsep, fat, froom, fdead, flent}
 use prog.Wp.{Heap}
 use ghost.Atoms.{Atoms, sem}
-use types.Kit.{Given, ‵, _⊛_, some, later, _$_, _∵_, !, qed, by, move, use1, use2, use3, drop, split, pick, rewrite, fsplit, fjoin, fpick, fpack, feqL, feqI, frame, await, updating, now as at-once, show, done}
+use types.Kit.{Given, ‵, _⊛_, some, later, _$_, _∵_, !, qed, move, use1, use2, use3, drop, split, pick, rewrite, fsplit, fjoin, fpick, fpack, feqL, feqI, frame, await, updating, now as at-once, show, done}
 use types.SemTy.{SemTy, cells, Arr}
 use types.Share.{arr-parts}
 use denote.RattleType.{RattleType}

@@ -14,7 +14,6 @@ use rules::rows::DepositNumber;
 use rules::rows::Lot;
 use rules::rows::Nonce;
 ghost use Prim.Native.Nat.{_≤_, _<_};
-ghost use lib.ListN.{length};
 
 fn main() {
     for k in 0..CASE_COUNT {
@@ -297,7 +296,7 @@ fn digest(t: &[Lot]) -> u64
     let mut sum: u64 = 0;
     let mut k: usize = 0;
     while k < t.len() {
-        let l = history::rows::lot_at(t, k);
+        let l = takings::rows::lot_at(t, k);
         sum = mixed(sum, l);
         k += 1;
     }

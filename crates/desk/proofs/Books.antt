@@ -1,34 +1,33 @@
 -- The two ends of every call: what a refusal leaves, and what is laid where nothing is refused. What a book in frame gives of its tables.
-use Prim.Native.Nat.{ℕ, zero, suc, _+_, _-_, _*_, _≤_, _<_}
+use Prim.Native.Nat.{ℕ, suc, _+_, _-_, _*_, _≤_, _<_}
 use mathlib.Core.Path.{_≡_, refl, sym, ap, _∙_}
 use mathlib.Core.Logic.{_≢_}
 use mathlib.Core.Bool.{Bool, true, false, _&&_, cond}
 use mathlib.Core.List.{List, [], _∷_, _++_, append-nil}
 use native.Mathlib.Omega.{arith}
-use lib.Dec.{leb, eqb}
-use lib.ListN.{length, getD, take, drop, take-append-drop, length-append}
+use lib.ListN.{length, getD, set, take-append-drop, length-append}
 use lib.Seq.{length-take-le}
 use borrow.Author.Tests.{leb-true, eqb-true, le-leb}
 use Rattle.rules.specs.declared.rows.Record.{Record}
 use Rattle.rules.specs.declared.desk.Desk.{Desk}
 use Rattle.rules.specs.declared.calls.Call.{Call}
 use Rattle.rules.specs.declared.answers.Answer.{Answer}
-use Rattle.rules.specs.declared.answers.Answered.{Answered}
 use Rattle.rules.specs.Limits.{ceiling, within, isMember, isAsset}
-use Rattle.rules.specs.Lists.{all, ands}
-use Rattle.rules.specs.Tables.{Edit, rowsOf, lay, edited, splice, editedTable, HasRoom, depositShape, paymentShape, recordShape}
-use Rattle.rules.specs.State.{State, Outside, Book, inboxOf, outboxOf, historyOf, payments, view, deskOf, laid}
-use Rattle.rules.specs.Replies.{Reply, told, plain, if-done}
-use Rattle.rules.specs.Effects.{effect, balance}
+use Rattle.rules.specs.Lists.{all}
+use Rattle.rules.specs.Tables.{Edit, lay, edited, editedTable, HasRoom, depositShape, paymentShape, recordShape}
+use Rattle.rules.specs.State.{Book, inboxOf, outboxOf, historyOf, payments, view, laid}
+use Rattle.rules.specs.Replies.{told, plain}
+use Rattle.rules.specs.Effects.{effect, cell, balance}
 use Rattle.rules.specs.Frame.{upToCeiling, inFrame}
-use Rattle.rules.specs.Answer.{Outcome, answer, replyNumber, replyWith, doneAnswer, piecesOf, bookOf, outcomeOf}
+use Rattle.rules.specs.Answer.{answer, replyNumber, doneAnswer, piecesOf, bookOf, outcomeOf}
 use Rattle.rules.proofs.Laying.{length-rows, lay-edited}
 use Rattle.rules.proofs.Shapes.{depositSound, paymentSound, recordSound}
-use Rattle.rules.proofs.Tests.{both, all-at, ands-at}
-use Rattle.rules.specs.Facts.{Accepted}
-use Rattle.rules.proofs.Accepts.{accepted-frame, not-done}
+use Rattle.rules.proofs.Tests.{both-of, true-within, all-at, ands-at}
+use Rattle.rules.specs.Facts.{Within, Accepted}
+use Rattle.rules.proofs.Accepts.{not-done}
 use Rattle.tables.specs.Rows.{putAt}
 use Rattle.desk.specs.Parts.{isDone, ofEight}
+use Rattle.desk.specs.Kept.{eightSet, balanceSet}
 use Rattle.desk.proofs.Chains.{done-number, refused-number}
 
 -- ---- the two ends of a call
@@ -151,3 +150,10 @@ eight-low xs i h = go (within 1 8 i)
     go : (p : Bool) → cond p (getD xs (i - 1) 0) 0 ≤ ceiling
     go true = leb-true (getD xs (i - 1) 0) ceiling (all-at upToCeiling xs (i - 1) 0 refl h)
     go false = omega arith
+
+-- ---- a number kept anew, within the limits
+pub balance-set : (bs : List ℕ) (m a x : ℕ) → Within 1 16 m → Within 1 8 a → balanceSet bs m a x ≡ set bs (cell m a) x
+balance-set bs m a x p q = rw (both-of (isMember m) (isAsset a) (true-within 1 16 m p) (true-within 1 8 a q))
+
+pub eight-set : (xs : List ℕ) (i x : ℕ) → Within 1 8 i → eightSet xs i x ≡ set xs (i - 1) x
+eight-set xs i x p = rw (true-within 1 8 i p)

@@ -3,13 +3,12 @@ use Prim.Native.Nat.{ℕ}
 use mathlib.Core.Path.{_≡_}
 use mathlib.Core.Bool.{Bool, cond}
 use mathlib.Core.List.{List}
-use Rattle.rules.specs.declared.desk.Desk.{Desk}
 use Rattle.rules.specs.declared.answers.Refusal.{Refusal}
 use Rattle.rules.specs.declared.answers.Answer.{Answer}
 use Rattle.rules.specs.Effects.{balance}
 use Rattle.rules.proofs.Told.{once}
 use Rattle.desk.specs.Parts.{ofEight, isDone}
-use Rattle.desk.specs.Kept.{eightSet}
+use Rattle.desk.specs.Kept.{eightSet, balanceSet}
 
 pub field-once : (test : ℕ → Bool) (x : ℕ) {r r′ : Bool} → r ≡ test x → r′ ≡ test x → r ≡ r′
 field-once test x = once (test x)
@@ -26,9 +25,8 @@ refuse-once applies why rest = once (cond applies (Answer.Refused why) rest)
 pub is-done-once : (a : Answer) {r r′ : Bool} → r ≡ isDone a → r′ ≡ isDone a → r ≡ r′
 is-done-once a = once (isDone a)
 
--- with_balance, with_holder, with_lifetime, with_settled
-pub kept-once : (kept : Desk) {r r′ : Desk} → r ≡ kept → r′ ≡ kept → r ≡ r′
-kept-once kept = once kept
+pub set-balance-once : (bs : List ℕ) (m a x : ℕ) {r r′ : List ℕ} → r ≡ balanceSet bs m a x → r′ ≡ balanceSet bs m a x → r ≡ r′
+set-balance-once bs m a x = once (balanceSet bs m a x)
 
-pub eight-with-once : (xs : List ℕ) (i x : ℕ) {r r′ : List ℕ} → r ≡ eightSet xs i x → r′ ≡ eightSet xs i x → r ≡ r′
-eight-with-once xs i x = once (eightSet xs i x)
+pub set-of-eight-once : (xs : List ℕ) (i x : ℕ) {r r′ : List ℕ} → r ≡ eightSet xs i x → r′ ≡ eightSet xs i x → r ≡ r′
+set-of-eight-once xs i x = once (eightSet xs i x)

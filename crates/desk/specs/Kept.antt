@@ -1,4 +1,4 @@
--- A desk with one number kept anew, where there is such a number, and all else as it was.
+-- A list of the desk with one number kept anew, where there is such a number. The desk with other lists, or other counts, and all else as it was.
 use Prim.Native.Nat.{ℕ, _-_}
 use mathlib.Core.Bool.{_&&_, cond}
 use mathlib.Core.List.{List}
@@ -27,17 +27,9 @@ withLists d balances holders lifetime settled =
 abbrev pub eightSet : List ℕ → ℕ → ℕ → List ℕ
 eightSet xs i x = cond (within 1 8 i) (set xs (i - 1) x) xs
 
-unfoldable pub balanceKept : Desk → ℕ → ℕ → ℕ → Desk
-balanceKept d m a x = withLists d (cond (isMember m && isAsset a) (set (d .balances) (cell m a) x) (d .balances)) (d .holders) (d .lifetime) (d .settled)
-
-unfoldable pub holderKept : Desk → ℕ → ℕ → Desk
-holderKept d domain m = withLists d (d .balances) (eightSet (d .holders) domain m) (d .lifetime) (d .settled)
-
-unfoldable pub lifetimeKept : Desk → ℕ → ℕ → Desk
-lifetimeKept d a x = withLists d (d .balances) (d .holders) (eightSet (d .lifetime) a x) (d .settled)
-
-unfoldable pub settledKept : Desk → ℕ → ℕ → Desk
-settledKept d a x = withLists d (d .balances) (d .holders) (d .lifetime) (eightSet (d .settled) a x)
+-- of the balances a member's in an asset set
+abbrev pub balanceSet : List ℕ → ℕ → ℕ → ℕ → List ℕ
+balanceSet xs m a x = cond (isMember m && isAsset a) (set xs (cell m a) x) xs
 
 -- the desk with these counts: unclaimed deposits, payments, those in flight, records
 abbrev pub withCounts : Desk → ℕ → ℕ → ℕ → ℕ → Desk

@@ -1,20 +1,18 @@
 -- The frame test by its parts: the loops over the inbox and the outbox, and the parts together.
-use Prim.Native.Nat.{ℕ, zero, suc, _+_, _-_, _*_, _≤_, _<_}
+use Prim.Native.Nat.{ℕ, _+_, _-_, _*_, _≤_, _<_}
 use mathlib.Core.Path.{_≡_, refl, sym, ap, _∙_}
 use mathlib.Core.Bool.{Bool, true, false, _&&_, and-assoc, and-comm, and-true, and-false}
 use mathlib.Core.List.{List, [], _∷_}
-use native.Mathlib.Omega.{arith}
-use native.Mathlib.Nat.{add-zero}
 use lib.Dec.{leb, ltb, eqb, lit<}
-use lib.ListN.{length, getD, take, drop}
+use lib.ListN.{length, getD}
 use borrow.Author.Tests.{eq-eqb, ne-eqb, le-leb, lt-leb}
 use Rattle.rules.specs.declared.rows.Deposit.{Deposit}
 use Rattle.rules.specs.declared.rows.Payment.{Payment}
-use Rattle.rules.specs.Limits.{within, inboxRows, outboxRows, isMember, isAsset, isAmount, isPayee}
+use Rattle.rules.specs.Limits.{isMember, isAsset, isAmount, isPayee}
 use Rattle.rules.specs.Lists.{all, ands}
-use Rattle.rules.specs.Tables.{Shape, rowsOf, depositShape, paymentShape, recordShape}
+use Rattle.rules.specs.Tables.{rowsOf, depositShape, paymentShape}
 use Rattle.rules.specs.State.{Book}
-use Rattle.rules.specs.Frame.{hasRows, depositInLimits, paymentInLimits, numbersRise, noncesFrom, noncesRise, inFrame}
+use Rattle.rules.specs.Frame.{depositInLimits, paymentInLimits, numbersRise, noncesFrom, noncesRise, inFrame}
 use Rattle.rules.proofs.Laying.{length-rows}
 use Rattle.tables.proofs.Rest.{passes, rest, rowAt, rest-all, passes-fails, passes-goes, passes-end, cell, cell0}
 use Rattle.frames.specs.Parts.{inboxFrame, outboxFrame, listsFrame, countsFrame, countsOf}

@@ -1,15 +1,13 @@
 -- The frame test in the parts that the code tests together: the inbox with its count, the outbox with its count, and the desk's own numbers.
-use Prim.Native.Nat.{ℕ, _-_}
-use mathlib.Core.Bool.{Bool, _&&_, true, false, cond}
+use Prim.Native.Nat.{ℕ}
+use mathlib.Core.Bool.{Bool, _&&_}
 use mathlib.Core.List.{List}
 use lib.Dec.{leb, eqb}
-use lib.ListN.{getD}
 use Rattle.rules.specs.declared.desk.Desk.{Desk}
-use Rattle.rules.specs.declared.answers.Answer.{Answer}
 use Rattle.frames.specs.declared.Counts.{Counts}
-use Rattle.rules.specs.Limits.{within, ceiling, inboxRows, outboxRows, historyRows, highestNumber, highestNext, isMember}
+use Rattle.rules.specs.Limits.{inboxRows, outboxRows, historyRows, highestNumber, highestNext, isMember}
 use Rattle.rules.specs.Lists.{all}
-use Rattle.rules.specs.Tables.{rowsOf, depositShape, paymentShape, recordShape}
+use Rattle.rules.specs.Tables.{rowsOf, depositShape, paymentShape}
 use Rattle.rules.specs.Frame.{hasRows, upToCeiling, depositInLimits, paymentInLimits, numbersRise, noncesRise}
 
 unfoldable pub inboxFrame : List ℕ → ℕ → ℕ → Bool

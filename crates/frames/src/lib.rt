@@ -6,7 +6,6 @@ use rules::rows::Nonce;
 ghost use mathlib.Core.Path.{_≡_};
 ghost use mathlib.Core.Bool.{_&&_};
 ghost use lib.Dec.{leb, ltb, eqb};
-ghost use lib.ListN.{length};
 ghost use Rattle.rules.specs.Limits.{within, isMember, isAsset, isAmount, isPayee};
 ghost use Rattle.rules.specs.Lists.{all};
 ghost use Rattle.rules.specs.Frame.{inFrame};
@@ -139,6 +138,7 @@ fn inbox_in_frame(t: &[u64], n: usize, last: u64) -> bool
     true
 }
 
+// One test after the other, so that the processor guesses each of them.
 fn deposit_in_frame(
     before: u64,
     last: u64,
@@ -149,8 +149,19 @@ fn deposit_in_frame(
 ) -> bool
     ensures { λ r. ⌜ r ≡ (isMember member && (isAsset asset && isAmount amount)) && (ltb before number && leb number last) ⌝ }
 {
-    (is_within(1, 16, member) & (is_within(1, 8, asset) & is_within(1, 1000000000000000, amount)))
-        & ((before < number) & (number <= last))
+    if !is_within(1, 16, member) {
+        return false;
+    }
+    if !is_within(1, 8, asset) {
+        return false;
+    }
+    if !is_within(1, 1000000000000000, amount) {
+        return false;
+    }
+    if number <= before {
+        return false;
+    }
+    number <= last
 }
 
 // The outbox: its size, its count, and each used row with the nonce that is due.
@@ -183,6 +194,14 @@ fn outbox_in_frame(t: &[u64], n: usize, next: u64) -> bool
 fn payment_in_frame(due: u64, asset: u64, amount: u64, payee: u64, nonce: u64) -> bool
     ensures { λ r. ⌜ r ≡ (isAsset asset && (isAmount amount && isPayee payee)) && eqb nonce due ⌝ }
 {
-    (is_within(1, 8, asset) & (is_within(1, 1000000000000000, amount) & is_within(1, 65535, payee)))
-        & (nonce == due)
+    if !is_within(1, 8, asset) {
+        return false;
+    }
+    if !is_within(1, 1000000000000000, amount) {
+        return false;
+    }
+    if !is_within(1, 65535, payee) {
+        return false;
+    }
+    nonce == due
 }

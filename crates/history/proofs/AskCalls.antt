@@ -1,4 +1,4 @@
--- The call of `trace` as a step of a walk, as in `LotCalls.antt`: for whoever is lent two tables of lots and hands them on.
+-- The call of `trace` as a step of a walk, as in `Rattle.takings.proofs.LotCalls`: for whoever is lent two tables of lots and hands them on.
 --     asks-trace     `trace(d, inbox, outbox, history, work, pieces, n)`
 -- Assumes `Given`.
 use mathlib.Core.Path.{_≡_, sym, ap, subst}
@@ -30,7 +30,7 @@ use denote.Triple.Spec.{tripleOf}
 use denote.Triple.Statement.{Contract, Triple}
 use denote.Triple.Call.{calls-at}
 use denote.Triple.Clauses.{ensured, lasts}
-use Rattle.history.proofs.Again.{LentAgain, lends-again-n, comes-back-n}
+use Rattle.takings.proofs.Again.{LentAgain, lends-again-n, comes-back-n}
 use Rattle.rules.specs.declared.rows.Lot.{Lot}
 use Rattle.rules.specs.declared.rows.Nonce.{Nonce}
 use Rattle.rules.specs.declared.desk.Desk.{Desk}
@@ -43,7 +43,7 @@ use Rattle.rules.proofs.desk.Desk.Laws as Dk′
 use Rattle.rules.proofs.answers.Answer as An
 use Rattle.rules.proofs.answers.Answer.Laws as An′
 use Rattle.history.specs.Tracing.{traceOutcomeOf}
-use Rattle.history.proofs.Values.{R, Desks, machK, Nonces, machN, Answers, machA, at-list, sv}
+use Rattle.takings.proofs.Values.{R, Desks, machK, Nonces, machN, Answers, machA, at-list, sv}
 use Rattle.history.proofs.trace.trace as trace
 use Rattle.history.proofs.trace.trace.Symbol.{name as #trace}
 

@@ -1,15 +1,5 @@
-pub mod Passing
-pub mod Replaying
-pub mod Payments
 pub mod Traced
 pub mod Once
-pub mod Again
-pub mod Loop
 pub mod Table
-pub mod Values
-pub mod LotCalls
-pub mod TakingCalls
-pub mod ReplayCalls
 pub mod TraceCalls
 pub mod AskCalls
-pub mod Locals

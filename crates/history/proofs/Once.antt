@@ -1,17 +1,15 @@
 -- Any two results that a public function's contract allows coincide, refusals too.
 use Prim.Native.Nat.{ℕ}
 use mathlib.Core.Path.{_≡_, sym, ap, _∙_}
-use mathlib.Core.Bool.{Bool}
 use mathlib.Core.List.{List}
-use lib.ListN.{length, getD, set, replicate}
 use Rattle.rules.specs.declared.rows.Nonce.{Nonce}
 use Rattle.rules.specs.declared.rows.Lot.{Lot}
 use Rattle.rules.specs.declared.answers.Answer.{Answer}
 use Rattle.rules.specs.State.{Book}
-use Rattle.rules.specs.Lots.{noLot}
+use Rattle.rules.specs.Replies.{told, plain}
 use Rattle.rules.specs.Answer.{TraceOutcome, traceAnswer}
 use Rattle.rules.proofs.Told.{told-once}
-use Rattle.history.specs.Tracing.{traceOutcomeOf}
+use Rattle.history.specs.Tracing.{traceOutcomeOf, traceNumberFor}
 
 -- the answer, and every row of both lent tables
 pub trace-once : (b : Book) (work pieces : List Lot) (n : Nonce) (r r′ : Answer) (w w′ p p′ : List Lot)
@@ -23,12 +21,6 @@ trace-once b work pieces n r r′ w w′ p p′ e f =
       ap (λ (x : TraceOutcome). x .pieces) g,
     )
 
--- ---- a lent table of lots
-pub lot-at-once : (lots : List Lot) (i : ℕ) (r r′ : Lot) → r ≡ getD lots i noLot → r′ ≡ getD lots i noLot → r ≡ r′
-lot-at-once lots i r r′ p q = p ∙ sym q
-
-pub put-lot-once : (lots : List Lot) (i : ℕ) (l : Lot) (t t′ : List Lot) → t ≡ set lots i l → t′ ≡ set lots i l → t ≡ t′
-put-lot-once lots i l t t′ p q = p ∙ sym q
-
-pub clear-once : (lots t t′ : List Lot) → t ≡ replicate (length lots) noLot → t′ ≡ replicate (length lots) noLot → t ≡ t′
-clear-once lots t t′ p q = p ∙ sym q
+-- the answer of the table of refusals
+pub trace-reply-once : (b : Book) (rows places : ℕ) (n : Nonce) (r r′ : Answer) → told r ≡ plain (traceNumberFor b rows places n) → told r′ ≡ plain (traceNumberFor b rows places n) → r ≡ r′
+trace-reply-once b rows places n r r′ p q = told-once r r′ (p ∙ sym q)

@@ -1,5 +1,5 @@
--- The calls that `trace` makes, as steps of a walk, as in `LotCalls.antt`.
---     refuses     `trace_reply(d, inbox, outbox, history, rows, places, n)`.        asks-done     `is_done(a)`
+-- The calls that `trace` makes, as steps of a walk, as in `Rattle.takings.proofs.LotCalls`.
+--     refuses     `reply_to(d, inbox, outbox, history, rows, places, n)`.        asks-done     `is_done(a)`
 --     traces-in     `traced(history, records, n, work, &mut held, pieces)`, where `held` is an array of the caller's own: it is lent for the call and freed after it (`Table.antt`)
 -- Assumes `Given`.
 use mathlib.Core.Path.{_≡_, refl, sym, ap, subst}
@@ -33,7 +33,7 @@ use denote.Triple.Spec.{tripleOf}
 use denote.Triple.Statement.{Contract, Triple}
 use denote.Triple.Call.{calls-at}
 use denote.Triple.Clauses.{ensured, lasts}
-use Rattle.history.proofs.Again.{LentAgain, lends-again-n, comes-back-n}
+use Rattle.takings.proofs.Again.{LentAgain, lends-again-n, comes-back-n}
 use mir.Syntax.{tyArray}
 use base.Fml.{fat, froom, flent}
 use denote.Array.{arrayVal}
@@ -54,28 +54,29 @@ use Rattle.rules.proofs.desk.Desk.Laws as Dk′
 use Rattle.rules.proofs.answers.Answer as An
 use Rattle.rules.proofs.answers.Answer.Laws as An′
 use Rattle.desk.specs.Parts.{isDone}
-use Rattle.history.specs.Tracing.{traceNumberFor, CanTrace, Traces}
+use Rattle.history.specs.Tracing.{traceNumberFor}
+use Rattle.replays.specs.Replaying.{CanTrace, Traces}
 use Rattle.history.proofs.Table.{lends-table, table-back}
-use Rattle.history.proofs.Values.{R, machOf, zeros-is, Desks, machK, Nonces, machN, Answers, machA, at-list, sv}
-use Rattle.history.proofs.refusals.trace_reply as trace-reply
-use Rattle.history.proofs.refusals.trace_reply.Symbol.{name as #trace-reply}
+use Rattle.takings.proofs.Values.{R, machOf, zeros-is, Desks, machK, Nonces, machN, Answers, machA, at-list, sv}
+use Rattle.history.proofs.refusals.reply_to as reply-to
+use Rattle.history.proofs.refusals.reply_to.Symbol.{name as #reply-to}
 use Rattle.desk.proofs.answers.is_done as is-done
 use Rattle.desk.proofs.answers.is_done.Symbol.{name as #is-done}
-use Rattle.history.proofs.replay.traced as traced
-use Rattle.history.proofs.replay.traced.Symbol.{name as #traced}
+use Rattle.replays.proofs.traced as traced
+use Rattle.replays.proofs.traced.Symbol.{name as #traced}
 
-abbrev pub TraceReply : {M : Type 1} (𝓤 : URA M) (H : Heap 𝓤) (A : Atoms 𝓤) (mem : Memory → SProp 𝓤) (run : Routine → Fun 𝓤) → Contract 𝓤
-TraceReply 𝓤 H A mem run = tripleOf 𝓤 H A trace-reply.signature (trace-reply.spec 𝓤 H A mem run)
+abbrev pub ReplyTo : {M : Type 1} (𝓤 : URA M) (H : Heap 𝓤) (A : Atoms 𝓤) (mem : Memory → SProp 𝓤) (run : Routine → Fun 𝓤) → Contract 𝓤
+ReplyTo 𝓤 H A mem run = tripleOf 𝓤 H A reply-to.signature (reply-to.spec 𝓤 H A mem run)
 
-abbrev pub to-refuses : {M : Type 1} (𝓤 : URA M) (H : Heap 𝓤) (A : Atoms 𝓤) (mem : Memory → SProp 𝓤) (run : Routine → Fun 𝓤) (binb oinb ninb : ℕ) (inbs : List ℕ) (boutb ooutb noutb : ℕ) (outbs : List ℕ) (bhist ohist nhist : ℕ) (hists : List ℕ) (dk : Desk) (rows : ℕ) (pieceRows : ℕ) (non : Nonce) (κinb : Lft) (qinb : Share) (γinb : GName) (κoutb : Lft) (qoutb : Share) (γoutb : GName) (κhist : Lft) (qhist : Share) (γhist : GName) → TraceReply 𝓤 H A mem run .Ghost
+abbrev pub to-refuses : {M : Type 1} (𝓤 : URA M) (H : Heap 𝓤) (A : Atoms 𝓤) (mem : Memory → SProp 𝓤) (run : Routine → Fun 𝓤) (binb oinb ninb : ℕ) (inbs : List ℕ) (boutb ooutb noutb : ℕ) (outbs : List ℕ) (bhist ohist nhist : ℕ) (hists : List ℕ) (dk : Desk) (rows : ℕ) (pieceRows : ℕ) (non : Nonce) (κinb : Lft) (qinb : Share) (γinb : GName) (κoutb : Lft) (qoutb : Share) (γoutb : GName) (κhist : Lft) (qhist : Share) (γhist : GName) → ReplyTo 𝓤 H A mem run .Ghost
 to-refuses 𝓤 H A mem run binb oinb ninb inbs boutb ooutb noutb outbs bhist ohist nhist hists dk rows pieceRows non κinb qinb γinb κoutb qoutb γoutb κhist qhist γhist = (((κinb, (κoutb, (κhist, tt))), (qinb, (qoutb, (qhist, tt))), tt, (dk, (at-list binb oinb γinb inbs, (at-list boutb ooutb γoutb outbs, (at-list bhist ohist γhist hists, (rows, (pieceRows, (non, tt))))))), (machK dk ∷ [], (sv binb oinb ninb ∷ [], (sv boutb ooutb noutb ∷ [], (sv bhist ohist nhist ∷ [], (vint w64 rows ∷ [], (vint w64 pieceRows ∷ [], (machN non ∷ [], tt)))))))), tt)
 
 module _ {M : Type 1} {𝓤 : URA M} {H : Heap 𝓤} {A : Atoms 𝓤} {K : Type 0} {W : Given 𝓤 H A} {Γ : List (Item 𝓤)} {E : Env 𝓤 H} {p : Post 𝓤 H} {d : Place} {xs : List Operand} {rest : Body} where
-  pub refuses : K → {κinb : Lft} {qinb : Share} {γinb : GName} {κoutb : Lft} {qoutb : Share} {γoutb : GName} {κhist : Lft} {qhist : Share} {γhist : GName} (binb oinb ninb : ℕ) (inbs : List ℕ) (boutb ooutb noutb : ℕ) (outbs : List ℕ) (bhist ohist nhist : ℕ) (hists : List ℕ) (dk : Desk) (rows : ℕ) (pieceRows : ℕ) (non : Nonce) (mem : Memory → SProp 𝓤) (run : Routine → Fun 𝓤) (𝓣 : Tables 𝓤 H) → Triple 𝓤 (𝓣 .C #trace-reply) (TraceReply 𝓤 H A mem run)
+  pub refuses : K → {κinb : Lft} {qinb : Share} {γinb : GName} {κoutb : Lft} {qoutb : Share} {γoutb : GName} {κhist : Lft} {qhist : Share} {γhist : GName} (binb oinb ninb : ℕ) (inbs : List ℕ) (boutb ooutb noutb : ℕ) (outbs : List ℕ) (bhist ohist nhist : ℕ) (hists : List ℕ) (dk : Desk) (rows : ℕ) (pieceRows : ℕ) (non : Nonce) (mem : Memory → SProp 𝓤) (run : Routine → Fun 𝓤) (𝓣 : Tables 𝓤 H) → Triple 𝓤 (𝓣 .C #reply-to) (ReplyTo 𝓤 H A mem run)
       → Is Desks dk (machK dk ∷ []) → rows < 2 ^ 64 → pieceRows < 2 ^ 64 → Is Nonces non (machN non ∷ [])
-      → (Opds K W (raw (TraceReply 𝓤 H A mem run .pre (to-refuses 𝓤 H A mem run binb oinb ninb inbs boutb ooutb noutb outbs bhist ohist nhist hists dk rows pieceRows non κinb qinb γinb κoutb qoutb γoutb κhist qhist γhist)) ∷ ‵ (ShrSlice (named 0) κinb u64 .own (at-list binb oinb γinb inbs) (sv binb oinb ninb ∷ [])) ∷ ‵ (ShrSlice (named 0) κoutb u64 .own (at-list boutb ooutb γoutb outbs) (sv boutb ooutb noutb ∷ [])) ∷ ‵ (ShrSlice (named 0) κhist u64 .own (at-list bhist ohist γhist hists) (sv bhist ohist nhist ∷ [])) ∷ Γ) E xs (machK dk ∷ sv binb oinb ninb ∷ sv boutb ooutb noutb ∷ sv bhist ohist nhist ∷ vint w64 rows ∷ vint w64 pieceRows ∷ machN non ∷ []))
+      → (Opds K W (raw (ReplyTo 𝓤 H A mem run .pre (to-refuses 𝓤 H A mem run binb oinb ninb inbs boutb ooutb noutb outbs bhist ohist nhist hists dk rows pieceRows non κinb qinb γinb κoutb qoutb γoutb κhist qhist γhist)) ∷ ‵ (ShrSlice (named 0) κinb u64 .own (at-list binb oinb γinb inbs) (sv binb oinb ninb ∷ [])) ∷ ‵ (ShrSlice (named 0) κoutb u64 .own (at-list boutb ooutb γoutb outbs) (sv boutb ooutb noutb ∷ [])) ∷ ‵ (ShrSlice (named 0) κhist u64 .own (at-list bhist ohist γhist hists) (sv bhist ohist nhist ∷ [])) ∷ Γ) E xs (machK dk ∷ sv binb oinb ninb ∷ sv boutb ooutb noutb ∷ sv bhist ohist nhist ∷ vint w64 rows ∷ vint w64 pieceRows ∷ machN non ∷ []))
       → ((r : Answer) → told r ≡ plain (traceNumberFor (bookOf dk inbs outbs hists) rows pieceRows non) → Is Answers r (machA r ∷ []) → Seq K W (‵ (ShrSlice (named 0) κinb u64 .own (at-list binb oinb γinb inbs) (sv binb oinb ninb ∷ [])) ∷ ‵ (flft κinb qinb) ∷ ‵ (ShrSlice (named 0) κoutb u64 .own (at-list boutb ooutb γoutb outbs) (sv boutb ooutb noutb ∷ [])) ∷ ‵ (flft κoutb qoutb) ∷ ‵ (ShrSlice (named 0) κhist u64 .own (at-list bhist ohist γhist hists) (sv bhist ohist nhist ∷ [])) ∷ ‵ (flft κhist qhist) ∷ Γ) (lands (𝓣 .C) (𝓣 .Λ) E d (machA r) rest p))
-      → Seq K W (‵ (ShrSlice (named 0) κinb u64 .own (at-list binb oinb γinb inbs) (sv binb oinb ninb ∷ [])) ∷ ‵ (flft κinb qinb) ∷ ‵ (ShrSlice (named 0) κoutb u64 .own (at-list boutb ooutb γoutb outbs) (sv boutb ooutb noutb ∷ [])) ∷ ‵ (flft κoutb qoutb) ∷ ‵ (ShrSlice (named 0) κhist u64 .own (at-list bhist ohist γhist hists) (sv bhist ohist nhist ∷ [])) ∷ ‵ (flft κhist qhist) ∷ Γ) (runs (𝓣 .C) (𝓣 .Λ) E (seq (call #trace-reply xs d) rest) p)
+      → Seq K W (‵ (ShrSlice (named 0) κinb u64 .own (at-list binb oinb γinb inbs) (sv binb oinb ninb ∷ [])) ∷ ‵ (flft κinb qinb) ∷ ‵ (ShrSlice (named 0) κoutb u64 .own (at-list boutb ooutb γoutb outbs) (sv boutb ooutb noutb ∷ [])) ∷ ‵ (flft κoutb qoutb) ∷ ‵ (ShrSlice (named 0) κhist u64 .own (at-list bhist ohist γhist hists) (sv bhist ohist nhist ∷ [])) ∷ ‵ (flft κhist qhist) ∷ Γ) (runs (𝓣 .C) (𝓣 .Λ) E (seq (call #reply-to xs d) rest) p)
   refuses t {κinb} {qinb} {γinb} {κoutb} {qoutb} {γoutb} {κhist} {qhist} {γhist} binb oinb ninb inbs boutb ooutb noutb outbs bhist ohist nhist hists dk rows pieceRows non mem run 𝓣 known isdk isrows ispieceRows isnon os k =
       use1 W (‵ (ShrSlice (named 0) κinb u64 .own (at-list binb oinb γinb inbs) (sv binb oinb ninb ∷ [])) ⊛ ‵ (ShrSlice (named 0) κinb u64 .own (at-list binb oinb γinb inbs) (sv binb oinb ninb ∷ []))) (shr-slice-copy 𝓤 H A W (named 0) κinb u64 .twice (at-list binb oinb γinb inbs) (sv binb oinb ninb ∷ [])) $ split t $
       move t (3 ∷ []) $
@@ -87,11 +88,11 @@ module _ {M : Type 1} {𝓤 : URA M} {H : Heap 𝓤} {A : Atoms 𝓤} {K : Type 
       move t (1 ∷ 0 ∷ []) $ fjoin t $ move t (2 ∷ 0 ∷ []) $ fjoin t $ move t (3 ∷ 0 ∷ []) $ fjoin t $ owned t Desks (Is Desks) ((LL.makes Dk.the-type Dk′.the-plain) 𝓤 H A) dk _ isdk $
       fjoin t $ nothing t $ move t (7 ∷ 0 ∷ []) $ join t $ move t (6 ∷ 0 ∷ []) $ join t $ move t (5 ∷ 0 ∷ []) $ join t $ join t $ nothing t $ move t (1 ∷ 0 ∷ []) $ join t $
       move t (0 ∷ 3 ∷ 2 ∷ 1 ∷ []) $
-      use1 W (raw (TraceReply 𝓤 H A mem run .pre (to-refuses 𝓤 H A mem run binb oinb ninb inbs boutb ooutb noutb outbs bhist ohist nhist hists dk rows pieceRows non κinb qinb γinb κoutb qoutb γoutb κhist qhist γhist))) (id⊢ 𝓤 _) $
-      calls-at t (fmOf 𝓤 H (W .laws) 𝓣) (TraceReply 𝓤 H A mem run) known (to-refuses 𝓤 H A mem run binb oinb ninb inbs boutb ooutb noutb outbs bhist ohist nhist hists dk rows pieceRows non κinb qinb γinb κoutb qoutb γoutb κhist qhist γhist) os (λ w.
-      use1 W (later (some (λ (r : Answer). ((‵ (flft κinb qinb) ⊛ (‵ (flft κoutb qoutb) ⊛ (‵ (flft κhist qhist) ⊛ ‵ ftrue))) ⊛ ‵ (Answers .own r (w ∷ []))) ⊛ raw (ensured 𝓤 H A trace-reply.ended (trace-reply.clauses 𝓤 H A mem run) (κinb, (κoutb, (κhist, tt))) (dk, (at-list binb oinb γinb inbs, (at-list boutb ooutb γoutb outbs, (at-list bhist ohist γhist hists, (rows, (pieceRows, (non, tt))))))) tt r)))) (id⊢ 𝓤 _) $ await t tt $ pick t (λ r. split t $
+      use1 W (raw (ReplyTo 𝓤 H A mem run .pre (to-refuses 𝓤 H A mem run binb oinb ninb inbs boutb ooutb noutb outbs bhist ohist nhist hists dk rows pieceRows non κinb qinb γinb κoutb qoutb γoutb κhist qhist γhist))) (id⊢ 𝓤 _) $
+      calls-at t (fmOf 𝓤 H (W .laws) 𝓣) (ReplyTo 𝓤 H A mem run) known (to-refuses 𝓤 H A mem run binb oinb ninb inbs boutb ooutb noutb outbs bhist ohist nhist hists dk rows pieceRows non κinb qinb γinb κoutb qoutb γoutb κhist qhist γhist) os (λ w.
+      use1 W (later (some (λ (r : Answer). ((‵ (flft κinb qinb) ⊛ (‵ (flft κoutb qoutb) ⊛ (‵ (flft κhist qhist) ⊛ ‵ ftrue))) ⊛ ‵ (Answers .own r (w ∷ []))) ⊛ raw (ensured 𝓤 H A reply-to.ended (reply-to.clauses 𝓤 H A mem run) (κinb, (κoutb, (κhist, tt))) (dk, (at-list binb oinb γinb inbs, (at-list boutb ooutb γoutb outbs, (at-list bhist ohist γhist hists, (rows, (pieceRows, (non, tt))))))) tt r)))) (id⊢ 𝓤 _) $ await t tt $ pick t (λ r. split t $
       move t (1 ∷ []) $
-      use1 W (some (λ (ws : Unit {0} × (Unit {0} × (Unit {0} × (Unit {0} × (Unit {0} × (Unit {0} × (Unit {0} × Unit {0}))))))). ‵ (lasts trace-reply.ended (κinb, (κoutb, (κhist, tt))) (dk, (at-list binb oinb γinb inbs, (at-list boutb ooutb γoutb outbs, (at-list bhist ohist γhist hists, (rows, (pieceRows, (non, tt))))))) ws) ⊛ raw (fact 𝓤 (told r ≡ plain (traceNumberFor (bookOf dk inbs outbs hists) rows pieceRows non))))) (id⊢ 𝓤 _) $ pick t (λ ws. split t $
+      use1 W (some (λ (ws : Unit {0} × (Unit {0} × (Unit {0} × (Unit {0} × (Unit {0} × (Unit {0} × (Unit {0} × Unit {0}))))))). ‵ (lasts reply-to.ended (κinb, (κoutb, (κhist, tt))) (dk, (at-list binb oinb γinb inbs, (at-list boutb ooutb γoutb outbs, (at-list bhist ohist γhist hists, (rows, (pieceRows, (non, tt))))))) ws) ⊛ raw (fact 𝓤 (told r ≡ plain (traceNumberFor (bookOf dk inbs outbs hists) rows pieceRows non))))) (id⊢ 𝓤 _) $ pick t (λ ws. split t $
       move t (1 ∷ []) $ heard t (told r ≡ plain (traceNumberFor (bookOf dk inbs outbs hists) rows pieceRows non)) (λ e. fsplit t $ drop t $ fsplit t $ drop t $ fsplit t $ drop t $
       fsplit t $ drop t $ fsplit t $ drop t $ fsplit t $ drop t $ fsplit t $ drop t $ drop t $ split t $ move t (1 ∷ []) $
       facts t Answers (Is Answers) (shows 𝓤 H A Answers) r (w ∷ []) (λ u. split t $ move t (1 ∷ []) $ split t $ move t (1 ∷ []) $ split t $ move t (1 ∷ []) $ drop t $

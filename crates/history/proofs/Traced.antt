@@ -1,44 +1,38 @@
 -- The two ends of a trace: the number that it gives, and what it hands out and leaves where nothing is refused.
-use Prim.Native.Nat.{ℕ, _+_, _*_, _≤_, _<_}
-use mathlib.Core.Path.{_≡_, refl, sym, ap, _∙_}
+use Prim.Native.Nat.{ℕ, _≤_}
+use mathlib.Core.Path.{_≡_, refl, sym, _∙_}
 use mathlib.Core.Logic.{_≢_}
 use mathlib.Core.Bool.{Bool, true, false, not, _&&_, _||_}
 use mathlib.Core.List.{List, [], _∷_}
 use native.Mathlib.Omega.{arith}
 use lib.Dec.{leb, ltb}
-use lib.ListN.{length, take, replicate}
-use lib.Seq.{length-take-le}
+use lib.ListN.{length, replicate}
 use borrow.Author.Tests.{leb-false, ltb-false}
-use Rattle.rules.specs.declared.rows.Record.{Record}
 use Rattle.rules.specs.declared.rows.Nonce.{Nonce}
 use Rattle.rules.specs.declared.rows.Lot.{Lot}
 use Rattle.rules.specs.declared.answers.Refusal.{Refusal}
 use Rattle.rules.specs.declared.answers.Answer.{Answer}
 use Rattle.rules.specs.Limits.{historyRows}
 use Rattle.rules.specs.Lists.{all}
-use Rattle.rules.specs.Tables.{rowsOf, recordShape}
+use Rattle.rules.specs.Tables.{recordShape}
 use Rattle.rules.specs.State.{Book, view, historyOf}
 use Rattle.rules.specs.Replies.{numberOf, told, plain}
 use Rattle.rules.specs.Refusals.{traceRefusals}
 use Rattle.rules.specs.Frame.{inFrame}
 use Rattle.rules.specs.History.{historyInFrame, withdrawals}
-use Rattle.rules.specs.Lots.{noLot, replay, traceFrom, pieces}
+use Rattle.rules.specs.Lots.{noLot, pieces}
 use Rattle.rules.specs.Answer.{badHistory, inFront, traceNumber, traceAnswer}
 use Rattle.rules.proofs.Laying.{length-rows}
-use Rattle.rules.proofs.Tests.{both, neither, not-holds, twice-not, all-at, none-applies}
+use Rattle.rules.proofs.Tests.{neither, not-holds, twice-not, all-at, none-applies}
 use Rattle.rules.proofs.Accepts.{not-done}
-use Rattle.tables.proofs.Rest.{rowAt}
 use Rattle.desk.specs.Parts.{isDone}
 use Rattle.desk.proofs.Chains.{Entry, chain, notBelow, chain-told, done-number, refused-number}
 use Rattle.desk.proofs.Books.{Framed, framed}
 use Rattle.lots.specs.Traces.{beforePayment}
-use Rattle.lots.proofs.LotCounts.{pieces-count}
-use Rattle.history.specs.declared.work.Taking.{Taking}
-use Rattle.history.specs.Working.{CanTake, TakesFrom, joinedOn}
-use Rattle.history.specs.Tracing.{traceOutcomeOf, traceNumberFor, CanReplayAll, ReplaysAll, CanTrace, Traces}
-use Rattle.history.proofs.Passing.{in-rows, joined-in-front}
+use Rattle.history.specs.Tracing.{traceOutcomeOf, traceNumberFor}
+use Rattle.replays.specs.Replaying.{CanTrace, Traces}
 use Rattle.records.proofs.Counting.{not-both}
-use Rattle.history.proofs.Payments.{no-payment, place-in, pieces-there, few-lots}
+use Rattle.replays.proofs.Payments.{no-payment}
 
 -- ---- the table of refusals
 abbrev pub traceEntries : Book → ℕ → ℕ → Nonce → List Entry
@@ -57,64 +51,6 @@ trace-told b rows places n =
       length-rows recordShape (b .desk .records) (b .history),
     )
     (chain-told (traceEntries b rows places n) refl)
-
--- ---- what is handed out
-module _ (history : List ℕ) (records n : ℕ) (work held out : List Lot) (can : CanTrace history records n work held out) (at : ℕ) (found : at ≡ length (beforePayment n (rowsOf recordShape records history))) where
-  in-place : at < records
-  in-place = rw found (place-in history records n (can .paid))
-
-  -- the records before the payment can be replayed
-  pub can-replay-all : CanReplayAll at history work held
-  can-replay-all = record { few = omega (arith, in-place, can .few); lie = omega (arith, in-place, can .lie); room = omega (arith, in-place, can .room); scratch = omega (arith, in-place, can .scratch) }
-
-  pub record-there : at * 5 + 5 ≤ length history
-  record-there = omega (arith, in-place, can .lie)
-
-  -- ---- after the replay and the taking
-  module _ (used : ℕ) (work₁ held₁ : List Lot) (wide : length work₁ ≡ length work) (long : length held₁ ≡ length held) (a : ReplaysAll at history used work₁) where
-    few-here : used ≤ at
-    few-here = few-lots history at used work₁ a
-
-    pub can-take-here : CanTake used work₁ held₁
-    can-take-here =
-        record {
-          few = omega (arith, few-here, in-place, can .few);
-          room = rw wide (omega (arith, few-here, in-place, can .room));
-          scratch = rw long (omega (arith, few-here, in-place, can .scratch));
-        }
-
-    module _ (r : Record) (e : r ≡ rowAt recordShape at history) (t : Taking) (work₂ held₂ : List Lot) (p : TakesFrom (r .first) (r .asset) (r .amount) used work₁ t work₂ held₂) where
-      ps : List Lot
-      ps = traceFrom [] n (rowsOf recordShape records history)
-
-      -- what was taken are the pieces
-      taken-are : take (t .taken) held₂ ≡ ps
-      unfolding ps
-      taken-are = p .wait ∙ rw (a .lots, e, found) (sym (pieces-there history records n (can .paid)))
-
-      counted : t .taken ≡ length ps
-      counted = p .taken ∙ ap length (sym (p .wait) ∙ taken-are)
-
-      pub few-pieces : t .taken ≤ records
-      unfolding ps
-      few-pieces = omega (arith, counted, pieces-count (rowsOf recordShape records history) (record { 0 = n }), length-rows recordShape records history)
-
-      -- the pieces are written into their table one after the other from the first row on
-      pub pieces-fit : 0 + t .taken ≤ 2048
-      pieces-fit = omega (arith, few-pieces, can .few)
-
-      pub traces : (laid cleared : List Lot) → laid ≡ joinedOn (r .first) (t .taken) 0 0 held₂ out → length work₂ ≡ length work₁ → cleared ≡ replicate (length work₂) noLot
-          → Traces history records n work out (t .taken) cleared laid
-      unfolding ps
-      traces laid cleared l w c =
-          record {
-            counts = counted;
-            clears = c ∙ ap (λ (k : ℕ). replicate k noLot) (w ∙ wide);
-            lays =
-                l
-                ∙ joined-in-front (r .first) (r .asset) (r .amount) (take used work₁) held₂ out (t .taken) (p .wait) (in-rows (t .taken) held₂ (ap length (p .wait) ∙ sym (p .taken))) (omega (arith, few-pieces, can .places))
-                ∙ ap (λ (k : List Lot). inFront k out) (sym (p .wait) ∙ taken-are);
-          }
 
 -- ---- the two ends
 module _ (b : Book) (work out : List Lot) (n : Nonce) (a : Answer) (tells : told a ≡ plain (traceNumberFor b (length work) (length out) n)) where

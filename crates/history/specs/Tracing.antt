@@ -1,18 +1,13 @@
--- What trace's parts rest on and come to: the number it gives, a replay up to a payment, and the pieces handed out.
-use Prim.Native.Nat.{ℕ, _*_, _≤_, _<_}
-use mathlib.Core.Path.{_≡_}
-use mathlib.Core.List.{List, [], _∷_}
-use lib.ListN.{length, take, replicate}
+-- What trace answers and leaves, and the number that it gives.
+use Prim.Native.Nat.{ℕ}
+use mathlib.Core.List.{List, _∷_}
 use Rattle.rules.specs.declared.rows.Nonce.{Nonce}
 use Rattle.rules.specs.declared.rows.Lot.{Lot}
 use Rattle.rules.specs.declared.answers.Answer.{Answer}
-use Rattle.rules.specs.Tables.{rowsOf, recordShape}
 use Rattle.rules.specs.State.{Book, view}
 use Rattle.rules.specs.Replies.{told, smallest}
 use Rattle.rules.specs.Refusals.{traceRefusals}
-use Rattle.rules.specs.History.{withdrawals}
-use Rattle.rules.specs.Lots.{noLot, replay, traceFrom}
-use Rattle.rules.specs.Answer.{badHistory, TraceOutcome, inFront}
+use Rattle.rules.specs.Answer.{badHistory, TraceOutcome}
 
 -- what trace answers and leaves of its two tables
 abbrev pub traceOutcomeOf : Answer → List Lot → List Lot → TraceOutcome
@@ -21,30 +16,3 @@ traceOutcomeOf r work pieces = record { reply = told r; work = work; pieces = pi
 -- the number that a trace gets with tables of these many rows
 unfoldable pub traceNumberFor : Book → ℕ → ℕ → Nonce → ℕ
 traceNumberFor b workRows pieceRows n = smallest (badHistory b ∷ traceRefusals workRows pieceRows (view b) n)
-
--- so many records can be replayed: they lie in the table, and each table has a row for a lot of each
-pub record CanReplayAll (at : ℕ) (history : List ℕ) (work held : List Lot) : Type 0 where
-  pub few : at ≤ 1024
-  pub lie : at * 5 ≤ length history
-  pub room : at ≤ length work
-  pub scratch : at ≤ length held
-
--- the lots after them, and how many
-pub record ReplaysAll (at : ℕ) (history : List ℕ) (n : ℕ) (work : List Lot) : Type 0 where
-  pub lots : take n work ≡ replay [] (rowsOf recordShape at history)
-  pub count : n ≡ length (replay [] (rowsOf recordShape at history))
-
--- payment n can be traced: it is there, and every table has a row for each record
-pub record CanTrace (history : List ℕ) (records n : ℕ) (work held pieces : List Lot) : Type 0 where
-  pub few : records ≤ 1024
-  pub lie : records * 5 ≤ length history
-  pub room : records ≤ length work
-  pub places : records ≤ length pieces
-  pub scratch : records ≤ length held
-  pub paid : n < withdrawals (rowsOf recordShape records history)
-
--- the piece count, the work table all zeros, and the pieces in front of theirs
-pub record Traces (history : List ℕ) (records n : ℕ) (work pieces : List Lot) (count : ℕ) (cleared laid : List Lot) : Type 0 where
-  pub counts : count ≡ length (traceFrom [] n (rowsOf recordShape records history))
-  pub clears : cleared ≡ replicate (length work) noLot
-  pub lays : laid ≡ inFront (traceFrom [] n (rowsOf recordShape records history)) pieces

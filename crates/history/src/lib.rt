@@ -1,7 +1,4 @@
 // The trace of a payment. No function here writes a table of the book; trace writes only the two tables that it
 // is lent.
-mod refusals;
-mod replay;
-pub mod rows;
+pub mod refusals;
 pub mod trace;
-mod work;

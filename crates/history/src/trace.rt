@@ -1,7 +1,7 @@
 // The trace of a payment: a replay in lots, where nothing is refused.
-use crate::refusals::trace_reply;
-use crate::replay::traced;
+use crate::refusals::reply_to;
 use desk::answers::is_done;
+use replays::traced;
 use rules::answers::Answer;
 use rules::desk::Desk;
 use rules::rows::DepositNumber;
@@ -23,7 +23,7 @@ pub fn trace(
 ) -> Answer
     ensures { λ r. ⌜ traceOutcomeOf r (now (work .exit)) (now (pieces .exit)) ≡ traceAnswer (bookOf d (now (inbox .entry)) (now (outbox .entry)) (now (history .entry))) (now (work .entry)) (now (pieces .entry)) n ⌝ }
 {
-    let reply = trace_reply(d, inbox, outbox, history, work.len(), pieces.len(), n);
+    let reply = reply_to(d, inbox, outbox, history, work.len(), pieces.len(), n);
     if !is_done(reply) {
         return reply;
     }

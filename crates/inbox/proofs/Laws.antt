@@ -1,40 +1,37 @@
 -- What deposit and claim refuse, as the code's chain; and what a done one lays back.
 use Prim.Native.Nat.{ℕ, zero, suc, _+_, _-_, _*_, _≤_, _<_, zero-le, suc-le-suc}
 use mathlib.Core.Path.{_≡_, refl, sym, ap, _∙_}
-use mathlib.Core.Bool.{Bool, true, false, not, _&&_, _||_, cond, and-true}
+use mathlib.Core.Bool.{Bool, true, false, not, _||_, cond, and-true}
 use mathlib.Core.List.{List, [], _∷_, _++_}
 use native.Mathlib.Nat.{add-zero}
 use native.Mathlib.Omega.{arith}
 use lib.Dec.{leb, ltb, eqb, eqb·zero-suc, eqb·suc-suc}
-use lib.ListN.{length, getD, set, take, drop, length-append, length-drop}
+use lib.ListN.{length, take, drop, length-append, length-drop}
 use lib.Seq.{length-take-le}
-use borrow.Author.Tests.{leb-true, le-leb, lt-ltb, le-ltb, ltb-true, eq-eqb, ne-eqb, eqb-true, eqb-false}
+use borrow.Author.Tests.{le-leb, lt-ltb, le-ltb, ltb-true, eq-eqb, ne-eqb, eqb-true, eqb-false}
 use Rattle.rules.specs.declared.rows.Deposit.{Deposit}
 use Rattle.rules.specs.declared.rows.Record.{Record}
-use Rattle.rules.specs.declared.desk.Desk.{Desk}
 use Rattle.rules.specs.declared.calls.Call.{Call}
 use Rattle.rules.specs.declared.calls.ClaimFields.{ClaimFields}
 use Rattle.rules.specs.declared.answers.Refusal.{Refusal}
 use Rattle.rules.specs.Limits.{ceiling, highestNumber, isMember, isAsset, isAmount}
 use Rattle.rules.specs.Lists.{all, any, same, indexOf}
 use Rattle.rules.specs.Tables.{Edit, rowsOf, lay, edited, editedTable, HasRoom, depositShape, recordShape}
-use Rattle.rules.specs.State.{Book, view, laid, deskOf, inboxOf, historyOf, payments}
+use Rattle.rules.specs.State.{Book, view, laid, deskOf, inboxOf, historyOf}
 use Rattle.rules.specs.Replies.{numberOf, told, plain}
 use Rattle.rules.specs.Refusals.{refusals, full}
-use Rattle.rules.specs.Effects.{balance, credit, total, raised, matches, deposited, effect, balancesAfter, holdersAfter, inboxEdit, outsideAfter, recordsOf}
+use Rattle.rules.specs.Effects.{total, matches, deposited, effect, balancesAfter, holdersAfter, inboxEdit, outsideAfter, recordsOf}
 use Rattle.rules.specs.Frame.{inFrame}
 use Rattle.rules.specs.Answer.{frameTest, replyNumber, bookOf}
 use Rattle.rules.proofs.Laying.{length-rows, lay-edited}
 use Rattle.rules.proofs.Shapes.{depositSound}
-use Rattle.rules.specs.Facts.{Within, Accepted, DepositFit, ClaimFit}
-use Rattle.rules.proofs.Tests.{both-of, true-within}
+use Rattle.rules.specs.Facts.{Accepted, DepositFit, ClaimFit}
 use Rattle.rules.proofs.Accepts.{fit, accepted-frame}
 use Rattle.tables.specs.Rows.{bare, putAt, takenOut, placeOf}
-use Rattle.desk.specs.Kept.{balanceKept, lifetimeKept, withCounts}
 use Rattle.desk.specs.Parts.{ofEight}
 use Rattle.desk.proofs.Chains.{Entry, chain, notBelow, chain-told, chain-frame}
 use Rattle.desk.proofs.Books.{Framed, framed, outbox-kept, history-kept, record-added, inbox-count, outbox-count, flight-count, history-count}
-use Rattle.inbox.specs.After.{withLast, depositedDesk, claimedDesk, rowOf, isGap, passesCeiling, CanDeposit, CanClaim}
+use Rattle.inbox.specs.After.{depositedDesk, claimedDesk, rowOf, isGap, passesCeiling, CanDeposit, CanClaim}
 
 -- ---- tests on any two numbers
 -- two orders that say the same
@@ -85,13 +82,6 @@ can-deposit b x a =
     let q : DepositFit (view b) x = fit b (Call.Deposit x) a in
     let l : length (inboxOf b) ≡ b .desk .unclaimed = length-rows depositShape (b .desk .unclaimed) (b .inbox) in
     record { asset = q .asset; amount = q .amount .high; lifetime = f .lifetime; unclaimed = omega (arith, q .room) }
-
-pub deposited-is : (d : Desk) (x : Deposit) → CanDeposit d x
-    → (let next = lifetimeKept d (x .asset) (ofEight (d .lifetime) (x .asset) + x .amount) in
-    withLast (withCounts next (d .unclaimed + 1) (next .payments) (next .inflight) (next .records)) (x .number))
-    ≡ depositedDesk d x
-unfolding lifetimeKept depositedDesk raised total
-deposited-is d x c = rw (true-within 1 8 (x .asset) (c .asset))
 
 -- one deposit more at the end of the inbox
 deposit-added : (b : Book) (x : Deposit) → Framed b → b .desk .unclaimed < 64
@@ -207,13 +197,6 @@ can-claim b c a =
       unclaimed = omega (arith, claim-place b c a);
       records = omega (arith, q .room);
     }
-
-pub claimed-is : (d : Desk) (c : ClaimFields) → CanClaim d c
-    → (let next = balanceKept d (c .member) (c .asset) (balance (d .balances) (c .member) (c .asset) + c .amount) in
-    withCounts next (d .unclaimed - 1) (next .payments) (next .inflight) (d .records + 1))
-    ≡ claimedDesk d c
-unfolding balanceKept claimedDesk credit
-claimed-is d c y = rw (both-of (isMember (c .member)) (isAsset (c .asset)) (true-within 1 16 (c .member) (y .member)) (true-within 1 8 (c .asset) (y .asset)))
 
 -- the claimed row leaves: "the rest keeping their order", and the last used row becomes zeros
 claim-taken : (b : Book) (i : ℕ) → Framed b → i < b .desk .unclaimed

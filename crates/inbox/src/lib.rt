@@ -1,5 +1,6 @@
-// The inbox: deposit and claim. Each is lent all three tables, tests the whole frame, and says in one
-// equation what it answers and what it leaves of the desk and every row.
+// The inbox: deposit and claim. Each call is its table of refusals (`.._reply`), which tests the whole frame, and
+// then what is done where nothing refuses it (`.._done`). Each says in one equation, of all three tables that it
+// is lent, what it answers and what it leaves of the desk and every row.
 use desk::answers::is_done;
 use desk::answers::refuse;
 use desk::fields::balance_of;
@@ -7,8 +8,9 @@ use desk::fields::is_amount;
 use desk::fields::is_asset;
 use desk::fields::is_member;
 use desk::fields::of_eight;
-use desk::keep::with_balance;
-use desk::keep::with_lifetime;
+use desk::keep::set_balance;
+use desk::keep::set_of_eight;
+use frames::Counts;
 use frames::counts_of;
 use frames::in_frame;
 use rules::answers::Answer;
@@ -22,42 +24,78 @@ use tables::put_row;
 use tables::take_out;
 ghost use mathlib.Core.Path.{_≡_};
 ghost use Rattle.rules.specs.declared.calls.Call.{Call};
+ghost use Rattle.rules.specs.Facts.{Accepted};
 ghost use Rattle.rules.specs.Replies.{told, plain};
 ghost use Rattle.rules.specs.Answer.{answer, replyNumber, bookOf, outcomeOf};
-ghost use Rattle.tables.specs.Rows.{placeOf};
-ghost use Rattle.inbox.specs.After.{rowOf, isGap, passesCeiling, CanDeposit, CanClaim, depositedDesk, claimedDesk};
+ghost use Rattle.frames.specs.Parts.{deskWith};
+ghost use Rattle.inbox.specs.After.{isGap, passesCeiling, CanDeposit, CanClaim, depositedDesk, claimedDesk};
 
 // Deposit (number, asset, amount, member): added at the end of the inbox.
 pub fn deposit(d: Desk, inbox: &mut [u64], outbox: &[u64], history: &[u64], x: Deposit) -> Answered
     ensures { λ r. ⌜ outcomeOf r (now (inbox .exit)) (now (outbox .entry)) (now (history .entry)) ≡ answer (bookOf d (now (inbox .entry)) (now (outbox .entry)) (now (history .entry))) (Call.Deposit x) ⌝ }
 {
-    let reply = deposit_reply(d, inbox, outbox, history, x);
+    let counts = counts_of(d);
+    let reply = deposit_reply(
+        &d.balances,
+        &d.holders,
+        &d.lifetime,
+        &d.settled,
+        counts,
+        inbox,
+        outbox,
+        history,
+        x,
+    );
     if !is_done(reply) {
         return Answered {
             answer: reply,
             desk: d,
         };
     }
+    deposit_done(d, inbox, outbox, history, x)
+}
+
+// Where nothing is refused.
+pub fn deposit_done(
+    d: Desk,
+    inbox: &mut [u64],
+    outbox: &[u64],
+    history: &[u64],
+    x: Deposit,
+) -> Answered
+    requires { ⌜ Accepted (bookOf d (now inbox) (now outbox) (now history)) (Call.Deposit x) ⌝ }
+    ensures { λ r. ⌜ outcomeOf r (now (inbox .exit)) (now (outbox .entry)) (now (history .entry)) ≡ answer (bookOf d (now (inbox .entry)) (now (outbox .entry)) (now (history .entry))) (Call.Deposit x) ⌝ }
+{
     let at = d.unclaimed * 4;
     let number = x.number;
     let row = [number.0, x.asset, x.amount, x.member];
     put_row(inbox, at, &row);
     let desk = deposited(d, x);
     Answered {
-        answer: reply,
+        answer: Answer::Done,
         desk,
     }
 }
 
 // The deposit's table of refusals, the largest number first.
-fn deposit_reply(d: Desk, inbox: &[u64], outbox: &[u64], history: &[u64], x: Deposit) -> Answer
-    ensures { λ r. ⌜ told r ≡ plain (replyNumber (bookOf d (now (inbox .entry)) (now (outbox .entry)) (now (history .entry))) (Call.Deposit x)) ⌝ }
+pub fn deposit_reply<'a>(
+    balances: &'a [u64; 128],
+    holders: &'a [u64; 8],
+    lifetime: &'a [u64; 8],
+    settled: &'a [u64; 8],
+    counts: Counts,
+    inbox: &[u64],
+    outbox: &[u64],
+    history: &[u64],
+    x: Deposit,
+) -> Answer
+    ensures { λ r. ⌜ told r ≡ plain (replyNumber (bookOf (deskWith (now (balances .entry)) (now (holders .entry)) (now (lifetime .entry)) (now (settled .entry)) counts) (now (inbox .entry)) (now (outbox .entry)) (now (history .entry))) (Call.Deposit x)) ⌝ }
 {
-    let last = d.last;
+    let last = counts.last;
     let number = x.number;
-    let r = refuse(64 <= d.unclaimed, Refusal::InboxFull, Answer::Done);
+    let r = refuse(64 <= counts.unclaimed, Refusal::InboxFull, Answer::Done);
     let r = refuse(
-        passes_ceiling(of_eight(&d.lifetime, x.asset), x.amount),
+        passes_ceiling(of_eight(lifetime, x.asset), x.amount),
         Refusal::Ceiling,
         r,
     );
@@ -66,12 +104,11 @@ fn deposit_reply(d: Desk, inbox: &[u64], outbox: &[u64], history: &[u64], x: Dep
     let r = refuse(!is_amount(x.amount), Refusal::BadAmount, r);
     let r = refuse(!is_asset(x.asset), Refusal::BadAsset, r);
     let r = refuse(!is_member(x.member), Refusal::BadMember, r);
-    let counts = counts_of(d);
     let framed = in_frame(
-        &d.balances,
-        &d.holders,
-        &d.lifetime,
-        &d.settled,
+        balances,
+        holders,
+        lifetime,
+        settled,
         counts,
         inbox,
         outbox,
@@ -105,8 +142,9 @@ fn deposited(d: Desk, x: Deposit) -> Desk
     requires { ⌜ CanDeposit d x ⌝ }
     ensures { λ r. ⌜ r ≡ depositedDesk d x ⌝ }
 {
-    let more = of_eight(&d.lifetime, x.asset) + x.amount;
-    let mut next = with_lifetime(d, x.asset, more);
+    let mut next = d;
+    let more = of_eight(&next.lifetime, x.asset) + x.amount;
+    set_of_eight(&mut next.lifetime, x.asset, more);
     let number = x.number;
     next.last = number;
     next.unclaimed = d.unclaimed + 1;
@@ -124,45 +162,77 @@ pub fn claim(
 ) -> Answered
     ensures { λ r. ⌜ outcomeOf r (now (inbox .exit)) (now (outbox .entry)) (now (history .exit)) ≡ answer (bookOf d (now (inbox .entry)) (now (outbox .entry)) (now (history .entry))) (Call.Claim c) ⌝ }
 {
-    let number = c.number;
-    let row = [number.0, c.asset, c.amount, c.member];
-    let place = find_row(inbox, d.unclaimed, &row);
-    let answer = claim_reply(d, inbox, outbox, history, c, place);
+    let counts = counts_of(d);
+    let answer = claim_reply(
+        &d.balances,
+        &d.holders,
+        &d.lifetime,
+        &d.settled,
+        counts,
+        inbox,
+        outbox,
+        history,
+        c,
+    );
     if !is_done(answer) {
         return Answered { answer, desk: d };
     }
+    claim_done(d, inbox, outbox, history, c)
+}
+
+// Where nothing is refused.
+pub fn claim_done(
+    d: Desk,
+    inbox: &mut [u64],
+    outbox: &[u64],
+    history: &mut [u64],
+    c: ClaimFields,
+) -> Answered
+    requires { ⌜ Accepted (bookOf d (now inbox) (now outbox) (now history)) (Call.Claim c) ⌝ }
+    ensures { λ r. ⌜ outcomeOf r (now (inbox .exit)) (now (outbox .entry)) (now (history .exit)) ≡ answer (bookOf d (now (inbox .entry)) (now (outbox .entry)) (now (history .entry))) (Call.Claim c) ⌝ }
+{
+    let number = c.number;
+    let row = [number.0, c.asset, c.amount, c.member];
+    let place = find_row(inbox, d.unclaimed, &row);
     take_out(inbox, 4, place, d.unclaimed);
     let at = d.records * 5;
     let entry = [1, c.asset, c.amount, c.member, number.0];
     put_row(history, at, &entry);
     let desk = claimed(d, c);
-    Answered { answer, desk }
+    Answered {
+        answer: Answer::Done,
+        desk,
+    }
 }
 
 // The claim's table of refusals, the largest number first. No unclaimed deposit matches where its
 // place is past the last.
-fn claim_reply(
-    d: Desk,
+pub fn claim_reply<'a>(
+    balances: &'a [u64; 128],
+    holders: &'a [u64; 8],
+    lifetime: &'a [u64; 8],
+    settled: &'a [u64; 8],
+    counts: Counts,
     inbox: &[u64],
     outbox: &[u64],
     history: &[u64],
     c: ClaimFields,
-    place: usize,
 ) -> Answer
-    requires { ⌜ place ≡ placeOf (rowOf c) (d .unclaimed) (now inbox) ⌝ }
-    ensures { λ r. ⌜ told r ≡ plain (replyNumber (bookOf d (now (inbox .entry)) (now (outbox .entry)) (now (history .entry))) (Call.Claim c)) ⌝ }
+    ensures { λ r. ⌜ told r ≡ plain (replyNumber (bookOf (deskWith (now (balances .entry)) (now (holders .entry)) (now (lifetime .entry)) (now (settled .entry)) counts) (now (inbox .entry)) (now (outbox .entry)) (now (history .entry))) (Call.Claim c)) ⌝ }
 {
-    let r = refuse(1024 <= d.records, Refusal::HistoryFull, Answer::Done);
-    let r = refuse(place == d.unclaimed, Refusal::NoSuchDeposit, r);
+    let number = c.number;
+    let row = [number.0, c.asset, c.amount, c.member];
+    let place = find_row(inbox, counts.unclaimed, &row);
+    let r = refuse(1024 <= counts.records, Refusal::HistoryFull, Answer::Done);
+    let r = refuse(place == counts.unclaimed, Refusal::NoSuchDeposit, r);
     let r = refuse(!is_amount(c.amount), Refusal::BadAmount, r);
     let r = refuse(!is_asset(c.asset), Refusal::BadAsset, r);
     let r = refuse(!is_member(c.member), Refusal::BadMember, r);
-    let counts = counts_of(d);
     let framed = in_frame(
-        &d.balances,
-        &d.holders,
-        &d.lifetime,
-        &d.settled,
+        balances,
+        holders,
+        lifetime,
+        settled,
         counts,
         inbox,
         outbox,
@@ -176,8 +246,9 @@ fn claimed(d: Desk, c: ClaimFields) -> Desk
     requires { ⌜ CanClaim d c ⌝ }
     ensures { λ r. ⌜ r ≡ claimedDesk d c ⌝ }
 {
-    let more = balance_of(&d.balances, c.member, c.asset) + c.amount;
-    let mut next = with_balance(d, c.member, c.asset, more);
+    let mut next = d;
+    let more = balance_of(&next.balances, c.member, c.asset) + c.amount;
+    set_balance(&mut next.balances, c.member, c.asset, more);
     next.unclaimed = d.unclaimed - 1;
     next.records = d.records + 1;
     next

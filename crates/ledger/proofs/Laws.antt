@@ -1,13 +1,13 @@
 -- What transfer, grant and sign refuse, as the code's chain; and what a done one lays back.
-use Prim.Native.Nat.{ℕ, _+_, _-_, _*_, _≤_, _<_}
-use mathlib.Core.Path.{_≡_, refl, sym, ap, _∙_}
-use mathlib.Core.Bool.{Bool, true, false, not, _&&_, _||_, cond}
-use mathlib.Core.List.{List, [], _∷_, _++_}
+use Prim.Native.Nat.{_+_, _-_, _*_, _≤_, _<_}
+use mathlib.Core.Path.{_≡_, refl}
+use mathlib.Core.Bool.{Bool, true, false, not, _||_}
+use mathlib.Core.List.{List, [], _∷_}
 use native.Mathlib.Nat.{add-zero}
 use native.Mathlib.Omega.{arith}
 use lib.Dec.{leb, ltb, eqb}
-use lib.ListN.{length, getD, set}
-use borrow.Author.Tests.{leb-true, le-leb}
+use lib.ListN.{length}
+use borrow.Author.Tests.{le-leb}
 use Rattle.rules.specs.declared.desk.Desk.{Desk}
 use Rattle.rules.specs.declared.calls.Call.{Call}
 use Rattle.rules.specs.declared.calls.TransferFields.{TransferFields}
@@ -21,19 +21,18 @@ use Rattle.rules.specs.Tables.{edited, recordShape}
 use Rattle.rules.specs.State.{Book, view, laid, deskOf, historyOf}
 use Rattle.rules.specs.Replies.{numberOf, told, plain}
 use Rattle.rules.specs.Refusals.{refusals, full}
-use Rattle.rules.specs.Effects.{balance, credit, debit, holder, effect, balancesAfter, holdersAfter, inboxEdit, outsideAfter, recordsOf}
+use Rattle.rules.specs.Effects.{balance, debit, holder, effect, balancesAfter, holdersAfter, inboxEdit, outsideAfter, recordsOf}
 use Rattle.rules.specs.Frame.{upToCeiling, inFrame}
 use Rattle.rules.specs.Answer.{frameTest, replyNumber, answer, bookOf, outcomeOf, doneAnswer, piecesOf}
 use Rattle.rules.proofs.Laying.{length-rows}
-use Rattle.rules.specs.Facts.{Within, Accepted, TransferFit, GrantFit}
-use Rattle.rules.proofs.Tests.{both-of, true-within, all-at, all-set}
+use Rattle.rules.specs.Facts.{Accepted, TransferFit, GrantFit}
+use Rattle.rules.proofs.Tests.{all-set}
 use Rattle.rules.proofs.Accepts.{fit, accepted-frame}
 use Rattle.tables.specs.Rows.{putAt}
-use Rattle.desk.specs.Kept.{balanceKept, holderKept}
 use Rattle.desk.specs.Parts.{ofEight, isDone}
-use Rattle.desk.proofs.Chains.{Entry, chain, rising, notBelow, chain-told}
+use Rattle.desk.proofs.Chains.{Entry, chain, notBelow, chain-told}
 use Rattle.desk.proofs.Books.{Framed, framed, balance-low, refuses, accepts, lays-plain, inbox-kept, outbox-kept, record-added, history-kept, inbox-count, outbox-count, flight-count, history-count}
-use Rattle.ledger.specs.After.{withRecords, transferredDesk, grantedDesk, CanTransfer, CanGrant}
+use Rattle.ledger.specs.After.{transferredDesk, grantedDesk, CanTransfer, CanGrant}
 
 -- ---- the tables of refusals
 abbrev pub transferEntries : Book → TransferFields → List Entry
@@ -85,24 +84,12 @@ transfer-laid b t f h =
 
 -- ---- the steps of a transfer
 -- the sender's balance is lower, so none is above the ceiling after it
-pub sent-low : (d : Desk) (t : TransferFields) → CanTransfer d t → all upToCeiling (balanceKept d (t .from) (t .asset) (balance (d .balances) (t .from) (t .asset) - t .amount) .balances) ≡ true
-unfolding balanceKept
+pub sent-low : (d : Desk) (t : TransferFields) → CanTransfer d t → all upToCeiling (debit (d .balances) (t .from) (t .asset) (t .amount)) ≡ true
+unfolding debit
 sent-low d t c =
     let low : balance (d .balances) (t .from) (t .asset) ≤ ceiling = balance-low (d .balances) (t .from) (t .asset) (c .balances) in
-    rw (both-of (isMember (t .from)) (isAsset (t .asset)) (true-within 1 16 (t .from) (c .from)) (true-within 1 8 (t .asset) (c .asset)))
-    (all-set upToCeiling (d .balances) ((t .from - 1) * 8 + (t .asset - 1)) (balance (d .balances) (t .from) (t .asset) - t .amount) (c .balances)
-    (le-leb (balance (d .balances) (t .from) (t .asset) - t .amount) ceiling (omega arith)))
-
-pub transferred-is : (d : Desk) (t : TransferFields) → CanTransfer d t
-    → (let sent = balanceKept d (t .from) (t .asset) (balance (d .balances) (t .from) (t .asset) - t .amount) in
-    withRecords (balanceKept sent (t .to) (t .asset) (balance (sent .balances) (t .to) (t .asset) + t .amount)) (d .records + 1))
-    ≡ transferredDesk d t
-unfolding balanceKept transferredDesk credit debit
-transferred-is d t c =
-    rw (
-      both-of (isMember (t .from)) (isAsset (t .asset)) (true-within 1 16 (t .from) (c .from)) (true-within 1 8 (t .asset) (c .asset)),
-      both-of (isMember (t .to)) (isAsset (t .asset)) (true-within 1 16 (t .to) (c .to)) (true-within 1 8 (t .asset) (c .asset)),
-    )
+    all-set upToCeiling (d .balances) ((t .from - 1) * 8 + (t .asset - 1)) (balance (d .balances) (t .from) (t .asset) - t .amount) (c .balances)
+    (le-leb (balance (d .balances) (t .from) (t .asset) - t .amount) ceiling (omega arith))
 
 -- ---- grant
 abbrev pub grantEntries : Book → GrantFields → List Entry
@@ -125,10 +112,6 @@ can-grant b g a =
     let q : GrantFit (view b) g = fit b (Call.Grant g) a in
     let l : length (historyOf b) ≡ b .desk .records = length-rows recordShape (b .desk .records) (b .history) in
     record { domain = q .domain; records = omega (arith, q .room) }
-
-pub granted-is : (d : Desk) (g : GrantFields) → CanGrant d g → withRecords (holderKept d (g .domain) (g .to)) (d .records + 1) ≡ grantedDesk d g
-unfolding holderKept grantedDesk
-granted-is d g c = rw (true-within 1 8 (g .domain) (c .domain))
 
 pub grant-laid : (b : Book) (g : GrantFields) → Framed b → b .desk .records < 1024
     → bookOf (grantedDesk (b .desk) g) (b .inbox) (b .outbox) (putAt (b .desk .records * 5) (4 ∷ g .domain ∷ 1 ∷ g .from ∷ g .to ∷ []) (b .history))

@@ -1,5 +1,6 @@
-// The subaccount ledger: transfer, grant and sign. Each is lent all three tables, tests the whole
-// frame, and says in one equation what it answers and what it leaves of the desk and every row.
+// The subaccount ledger: transfer, grant and sign. Each call is its table of refusals (`.._reply`), which tests the
+// whole frame, and then what is done where nothing refuses it (`.._done`; a sign does nothing more). Each says in
+// one equation, of all three tables that it is lent, what it answers and what it leaves of the desk and every row.
 use desk::answers::is_done;
 use desk::answers::refuse;
 use desk::fields::balance_of;
@@ -8,8 +9,9 @@ use desk::fields::is_asset;
 use desk::fields::is_domain;
 use desk::fields::is_member;
 use desk::fields::of_eight;
-use desk::keep::with_balance;
-use desk::keep::with_holder;
+use desk::keep::set_balance;
+use desk::keep::set_of_eight;
+use frames::Counts;
 use frames::counts_of;
 use frames::in_frame;
 use rules::answers::Answer;
@@ -21,9 +23,10 @@ use rules::calls::TransferFields;
 use rules::desk::Desk;
 use tables::put_row;
 ghost use mathlib.Core.Path.{_≡_};
-ghost use Prim.Native.Nat.{_≤_, _+_};
 ghost use Rattle.rules.specs.declared.calls.Call.{Call};
+ghost use Rattle.frames.specs.Parts.{deskWith};
 ghost use Rattle.ledger.specs.After.{CanTransfer, CanGrant, transferredDesk, grantedDesk};
+ghost use Rattle.rules.specs.Facts.{Accepted};
 ghost use Rattle.rules.specs.Replies.{told, plain};
 ghost use Rattle.rules.specs.Answer.{answer, replyNumber, bookOf, outcomeOf};
 
@@ -37,36 +40,65 @@ pub fn transfer(
 ) -> Answered
     ensures { λ r. ⌜ outcomeOf r (now (inbox .entry)) (now (outbox .entry)) (now (history .exit)) ≡ answer (bookOf d (now (inbox .entry)) (now (outbox .entry)) (now (history .entry))) (Call.Transfer t) ⌝ }
 {
-    let reply = transfer_reply(d, inbox, outbox, history, t);
+    let counts = counts_of(d);
+    let reply = transfer_reply(
+        &d.balances,
+        &d.holders,
+        &d.lifetime,
+        &d.settled,
+        counts,
+        inbox,
+        outbox,
+        history,
+        t,
+    );
     if !is_done(reply) {
         return Answered {
             answer: reply,
             desk: d,
         };
     }
+    transfer_done(d, inbox, outbox, history, t)
+}
+
+// Where nothing is refused.
+pub fn transfer_done(
+    d: Desk,
+    inbox: &[u64],
+    outbox: &[u64],
+    history: &mut [u64],
+    t: TransferFields,
+) -> Answered
+    requires { ⌜ Accepted (bookOf d (now inbox) (now outbox) (now history)) (Call.Transfer t) ⌝ }
+    ensures { λ r. ⌜ outcomeOf r (now (inbox .entry)) (now (outbox .entry)) (now (history .exit)) ≡ answer (bookOf d (now (inbox .entry)) (now (outbox .entry)) (now (history .entry))) (Call.Transfer t) ⌝ }
+{
     let at = d.records * 5;
     let row = [2, t.asset, t.amount, t.from, t.to];
     put_row(history, at, &row);
     let desk = transferred(d, t);
     Answered {
-        answer: reply,
+        answer: Answer::Done,
         desk,
     }
 }
 
 // The transfer's table of refusals, the largest number first.
-fn transfer_reply(
-    d: Desk,
+pub fn transfer_reply<'a>(
+    balances: &'a [u64; 128],
+    holders: &'a [u64; 8],
+    lifetime: &'a [u64; 8],
+    settled: &'a [u64; 8],
+    counts: Counts,
     inbox: &[u64],
     outbox: &[u64],
     history: &[u64],
     t: TransferFields,
 ) -> Answer
-    ensures { λ r. ⌜ told r ≡ plain (replyNumber (bookOf d (now (inbox .entry)) (now (outbox .entry)) (now (history .entry))) (Call.Transfer t)) ⌝ }
+    ensures { λ r. ⌜ told r ≡ plain (replyNumber (bookOf (deskWith (now (balances .entry)) (now (holders .entry)) (now (lifetime .entry)) (now (settled .entry)) counts) (now (inbox .entry)) (now (outbox .entry)) (now (history .entry))) (Call.Transfer t)) ⌝ }
 {
-    let r = refuse(1024 <= d.records, Refusal::HistoryFull, Answer::Done);
+    let r = refuse(1024 <= counts.records, Refusal::HistoryFull, Answer::Done);
     let r = refuse(
-        balance_of(&d.balances, t.from, t.asset) < t.amount,
+        balance_of(balances, t.from, t.asset) < t.amount,
         Refusal::Short,
         r,
     );
@@ -74,12 +106,11 @@ fn transfer_reply(
     let r = refuse(!is_amount(t.amount), Refusal::BadAmount, r);
     let r = refuse(!is_asset(t.asset), Refusal::BadAsset, r);
     let r = refuse(!is_member(t.from) | !is_member(t.to), Refusal::BadMember, r);
-    let counts = counts_of(d);
     let framed = in_frame(
-        &d.balances,
-        &d.holders,
-        &d.lifetime,
-        &d.settled,
+        balances,
+        holders,
+        lifetime,
+        settled,
         counts,
         inbox,
         outbox,
@@ -93,10 +124,11 @@ fn transferred(d: Desk, t: TransferFields) -> Desk
     requires { ⌜ CanTransfer d t ⌝ }
     ensures { λ r. ⌜ r ≡ transferredDesk d t ⌝ }
 {
-    let less = balance_of(&d.balances, t.from, t.asset) - t.amount;
-    let sent = with_balance(d, t.from, t.asset, less);
-    let more = balance_of(&sent.balances, t.to, t.asset) + t.amount;
-    let mut next = with_balance(sent, t.to, t.asset, more);
+    let mut next = d;
+    let less = balance_of(&next.balances, t.from, t.asset) - t.amount;
+    set_balance(&mut next.balances, t.from, t.asset, less);
+    let more = balance_of(&next.balances, t.to, t.asset) + t.amount;
+    set_balance(&mut next.balances, t.to, t.asset, more);
     next.records = d.records + 1;
     next
 }
@@ -111,36 +143,69 @@ pub fn grant(
 ) -> Answered
     ensures { λ r. ⌜ outcomeOf r (now (inbox .entry)) (now (outbox .entry)) (now (history .exit)) ≡ answer (bookOf d (now (inbox .entry)) (now (outbox .entry)) (now (history .entry))) (Call.Grant g) ⌝ }
 {
-    let answer = grant_reply(d, inbox, outbox, history, g);
-    if !is_done(answer) {
-        return Answered { answer, desk: d };
-    }
-    let at = d.records * 5;
-    let row = [4, g.domain, 1, g.from, g.to];
-    put_row(history, at, &row);
-    let desk = granted(d, g);
-    Answered { answer, desk }
-}
-
-// The grant's table of refusals, the largest number first.
-fn grant_reply(d: Desk, inbox: &[u64], outbox: &[u64], history: &[u64], g: GrantFields) -> Answer
-    ensures { λ r. ⌜ told r ≡ plain (replyNumber (bookOf d (now (inbox .entry)) (now (outbox .entry)) (now (history .entry))) (Call.Grant g)) ⌝ }
-{
-    let r = refuse(1024 <= d.records, Refusal::HistoryFull, Answer::Done);
-    let r = refuse(
-        of_eight(&d.holders, g.domain) != g.from,
-        Refusal::NotHolder,
-        r,
-    );
-    let r = refuse(g.from == g.to, Refusal::SameMember, r);
-    let r = refuse(!is_domain(g.domain), Refusal::BadDomain, r);
-    let r = refuse(!is_member(g.from) | !is_member(g.to), Refusal::BadMember, r);
     let counts = counts_of(d);
-    let framed = in_frame(
+    let answer = grant_reply(
         &d.balances,
         &d.holders,
         &d.lifetime,
         &d.settled,
+        counts,
+        inbox,
+        outbox,
+        history,
+        g,
+    );
+    if !is_done(answer) {
+        return Answered { answer, desk: d };
+    }
+    grant_done(d, inbox, outbox, history, g)
+}
+
+// Where nothing is refused.
+pub fn grant_done(
+    d: Desk,
+    inbox: &[u64],
+    outbox: &[u64],
+    history: &mut [u64],
+    g: GrantFields,
+) -> Answered
+    requires { ⌜ Accepted (bookOf d (now inbox) (now outbox) (now history)) (Call.Grant g) ⌝ }
+    ensures { λ r. ⌜ outcomeOf r (now (inbox .entry)) (now (outbox .entry)) (now (history .exit)) ≡ answer (bookOf d (now (inbox .entry)) (now (outbox .entry)) (now (history .entry))) (Call.Grant g) ⌝ }
+{
+    let at = d.records * 5;
+    let row = [4, g.domain, 1, g.from, g.to];
+    put_row(history, at, &row);
+    let desk = granted(d, g);
+    Answered {
+        answer: Answer::Done,
+        desk,
+    }
+}
+
+// The grant's table of refusals, the largest number first.
+pub fn grant_reply<'a>(
+    balances: &'a [u64; 128],
+    holders: &'a [u64; 8],
+    lifetime: &'a [u64; 8],
+    settled: &'a [u64; 8],
+    counts: Counts,
+    inbox: &[u64],
+    outbox: &[u64],
+    history: &[u64],
+    g: GrantFields,
+) -> Answer
+    ensures { λ r. ⌜ told r ≡ plain (replyNumber (bookOf (deskWith (now (balances .entry)) (now (holders .entry)) (now (lifetime .entry)) (now (settled .entry)) counts) (now (inbox .entry)) (now (outbox .entry)) (now (history .entry))) (Call.Grant g)) ⌝ }
+{
+    let r = refuse(1024 <= counts.records, Refusal::HistoryFull, Answer::Done);
+    let r = refuse(of_eight(holders, g.domain) != g.from, Refusal::NotHolder, r);
+    let r = refuse(g.from == g.to, Refusal::SameMember, r);
+    let r = refuse(!is_domain(g.domain), Refusal::BadDomain, r);
+    let r = refuse(!is_member(g.from) | !is_member(g.to), Refusal::BadMember, r);
+    let framed = in_frame(
+        balances,
+        holders,
+        lifetime,
+        settled,
         counts,
         inbox,
         outbox,
@@ -154,7 +219,8 @@ fn granted(d: Desk, g: GrantFields) -> Desk
     requires { ⌜ CanGrant d g ⌝ }
     ensures { λ r. ⌜ r ≡ grantedDesk d g ⌝ }
 {
-    let mut next = with_holder(d, g.domain, g.to);
+    let mut next = d;
+    set_of_eight(&mut next.holders, g.domain, g.to);
     next.records = d.records + 1;
     next
 }
@@ -163,15 +229,8 @@ fn granted(d: Desk, g: GrantFields) -> Desk
 pub fn sign(d: Desk, inbox: &[u64], outbox: &[u64], history: &[u64], s: SignFields) -> Answered
     ensures { λ r. ⌜ outcomeOf r (now (inbox .entry)) (now (outbox .entry)) (now (history .entry)) ≡ answer (bookOf d (now (inbox .entry)) (now (outbox .entry)) (now (history .entry))) (Call.Sign s) ⌝ }
 {
-    let r = refuse(
-        of_eight(&d.holders, s.domain) != s.member,
-        Refusal::NotHolder,
-        Answer::Done,
-    );
-    let r = refuse(!is_domain(s.domain), Refusal::BadDomain, r);
-    let r = refuse(!is_member(s.member), Refusal::BadMember, r);
     let counts = counts_of(d);
-    let framed = in_frame(
+    let answer = sign_reply(
         &d.balances,
         &d.holders,
         &d.lifetime,
@@ -180,7 +239,41 @@ pub fn sign(d: Desk, inbox: &[u64], outbox: &[u64], history: &[u64], s: SignFiel
         inbox,
         outbox,
         history,
+        s,
     );
-    let r = refuse(!framed, Refusal::BadBook, r);
-    Answered { answer: r, desk: d }
+    Answered { answer, desk: d }
+}
+
+// The table of refusals of sign, the largest number first.
+pub fn sign_reply<'a>(
+    balances: &'a [u64; 128],
+    holders: &'a [u64; 8],
+    lifetime: &'a [u64; 8],
+    settled: &'a [u64; 8],
+    counts: Counts,
+    inbox: &[u64],
+    outbox: &[u64],
+    history: &[u64],
+    s: SignFields,
+) -> Answer
+    ensures { λ r. ⌜ told r ≡ plain (replyNumber (bookOf (deskWith (now (balances .entry)) (now (holders .entry)) (now (lifetime .entry)) (now (settled .entry)) counts) (now (inbox .entry)) (now (outbox .entry)) (now (history .entry))) (Call.Sign s)) ⌝ }
+{
+    let r = refuse(
+        of_eight(holders, s.domain) != s.member,
+        Refusal::NotHolder,
+        Answer::Done,
+    );
+    let r = refuse(!is_domain(s.domain), Refusal::BadDomain, r);
+    let r = refuse(!is_member(s.member), Refusal::BadMember, r);
+    let framed = in_frame(
+        balances,
+        holders,
+        lifetime,
+        settled,
+        counts,
+        inbox,
+        outbox,
+        history,
+    );
+    refuse(!framed, Refusal::BadBook, r)
 }

@@ -1,4 +1,3 @@
-pub mod FieldLaws
 pub mod TakingLaws
 pub mod LineLaws
 pub mod Once

@@ -15,7 +15,8 @@ use Rattle.rules.specs.Lists.{same, any, bytes}
 use Rattle.rules.specs.Lines.{fieldEnd, firstField, afterField, number, Numbers, andRead, numbers, Form, depositForm, claimForm, transferForm, withdrawForm, sendForm, settleForm, grantForm, signForm, traceForm, forms, formed, formedOf, readFields, readLine}
 use Rattle.rules.proofs.ReadBack.{fieldsAfter, fields-first}
 use Rattle.lines.proofs.TakingLaws.{taken-ap}
-use Rattle.lines.specs.Reading.{nextField, afterNext, taken, taking, readsAs}
+use Rattle.fields.specs.Reading.{nextField, taken}
+use Rattle.lines.specs.Reading.{afterNext, taking, readsAs}
 
 never : false ≡ true → ⊥
 never e = let z : _≡_ {A = ℕ} 0 1 = cc in omega arith

@@ -2,22 +2,10 @@
 use Prim.Native.Nat.{ℕ}
 use mathlib.Core.Path.{_≡_}
 use mathlib.Core.List.{List}
-use lib.ListN.{drop}
 use Rattle.rules.specs.declared.calls.Line.{Line}
-use Rattle.rules.specs.Lines.{fieldEnd, readLine}
+use Rattle.rules.specs.Lines.{readLine}
 use Rattle.rules.proofs.Told.{once}
-use Rattle.lines.specs.declared.fields.ReadField.{ReadField}
-use Rattle.lines.specs.Reading.{nextRead}
 
--- ---- the field reader and the line reader
-pub field-end-once : (s : List ℕ) {r r′ : ℕ} → r ≡ fieldEnd s → r′ ≡ fieldEnd s → r ≡ r′
-field-end-once s = once (fieldEnd s)
-
-pub after-field-once : (s : List ℕ) (end : ℕ) {r r′ : List ℕ} → r ≡ drop end s → r′ ≡ drop end s → r ≡ r′
-after-field-once s end = once (drop end s)
-
-pub next-field-once : (s : List ℕ) {r r′ : ReadField} → r ≡ nextRead s → r′ ≡ nextRead s → r ≡ r′
-next-field-once s = once (nextRead s)
-
+-- ---- the line reader
 pub read-line-once : (s : List ℕ) {r r′ : Line} → r ≡ readLine s → r′ ≡ readLine s → r ≡ r′
 read-line-once s = once (readLine s)

@@ -9,8 +9,9 @@ use Rattle.rules.specs.declared.calls.Field.{Field}
 use Rattle.rules.specs.Lines.{fieldEnd, at}
 use Rattle.lines.specs.declared.read.Four.{Four}
 use Rattle.lines.specs.declared.read.Numbers.{Numbers}
-use Rattle.lines.specs.declared.fields.ReadField.{ReadField}
-use Rattle.lines.specs.Reading.{nextField, afterNext, placed, nextEnd, nextRead, taken, taking, lastField}
+use Rattle.fields.specs.declared.ReadField.{ReadField}
+use Rattle.fields.specs.Reading.{nextField, placed, nextEnd, nextRead, taken}
+use Rattle.lines.specs.Reading.{afterNext, taking, lastField}
 use Rattle.lines.specs.Fours.{four, fourOf}
 
 -- the part after the field that follows, by the place of its end

@@ -1,8 +1,8 @@
 // The line reader: a word, so many numbers after it, each after a tab, and nothing after the last.
-use crate::fields::ReadField;
-use crate::fields::after_field;
-use crate::fields::field_end;
-use crate::fields::next_field;
+use fields::ReadField;
+use fields::after_field;
+use fields::field_end;
+use fields::next_field;
 use rules::calls::Call;
 use rules::calls::ClaimFields;
 use rules::calls::Field;
@@ -16,7 +16,7 @@ use rules::rows::DepositNumber;
 use rules::rows::Nonce;
 ghost use mathlib.Core.Path.{_≡_};
 ghost use Rattle.rules.specs.Lists.{same};
-ghost use Rattle.rules.specs.Lines.{firstField, depositForm, claimForm, transferForm, withdrawForm, sendForm, settleForm, grantForm, signForm, traceForm};
+ghost use Rattle.rules.specs.Lines.{depositForm, claimForm, transferForm, withdrawForm, sendForm, settleForm, grantForm, signForm, traceForm};
 ghost use Rattle.rules.specs.Lines.{readLine};
 ghost use Rattle.lines.specs.Reading.{lastField, readsAs};
 ghost use Rattle.lines.specs.Fours.{fourOf};

@@ -1,18 +1,17 @@
 -- The two ways in which a trace is said are one: what a line of calls gets, and what the lent tables get, where both tables have a row for each record, if there are no more than a history can have.
 use Prim.Native.Nat.{ℕ, zero, suc, _≤_}
 use mathlib.Core.Path.{_≡_, refl, sym, _∙_}
-use mathlib.Core.Bool.{Bool, true, false, not, _||_, and-eq-true-iff}
+use mathlib.Core.Bool.{Bool, true, false, not, _||_}
 use mathlib.Core.List.{List, [], _∷_}
 use native.Mathlib.Omega.{arith}
 use lib.Dec.{leb, ltb}
-use lib.ListN.{length, getD, take, drop}
+use lib.ListN.{length, take, drop}
 use lib.Seq.{take-append-seam}
 use borrow.Author.Tests.{leb-true, le-ltb}
 use Rattle.rules.specs.declared.rows.Nonce.{Nonce}
 use Rattle.rules.specs.declared.rows.Lot.{Lot}
 use Rattle.rules.specs.declared.calls.Call.{Call}
 use Rattle.rules.specs.Limits.{historyRows}
-use Rattle.rules.specs.Lists.{ands}
 use Rattle.rules.specs.Tables.{recordShape}
 use Rattle.rules.specs.State.{Book, view, historyOf}
 use Rattle.rules.specs.Replies.{numberOf, smallest, if-done}

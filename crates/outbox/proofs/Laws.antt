@@ -21,22 +21,21 @@ use Rattle.rules.specs.Tables.{Edit, rowsOf, lay, edited, editedTable, HasRoom,
 use Rattle.rules.specs.State.{Book, view, laid, deskOf, outboxOf, historyOf, payments}
 use Rattle.rules.specs.Replies.{numberOf, told, plain}
 use Rattle.rules.specs.Refusals.{refusals, full}
-use Rattle.rules.specs.Effects.{balance, debit, total, raised, oldest, paymentOf, withdrawn, sent, settledOne, effect, balancesAfter, holdersAfter, inboxEdit, outsideAfter, recordsOf}
+use Rattle.rules.specs.Effects.{balance, oldest, paymentOf, withdrawn, sent, settledOne, effect, balancesAfter, holdersAfter, inboxEdit, outsideAfter, recordsOf}
 use Rattle.rules.specs.Frame.{hasRows, upToCeiling, paymentInLimits, noncesRise, inFrame}
 use Rattle.rules.specs.Answer.{frameTest, replyNumber, bookOf}
 use Rattle.rules.proofs.Laying.{length-rows, take-rows, drop-rows, lay-edited}
 use Rattle.rules.proofs.Shapes.{paymentSound}
 use Rattle.rules.specs.Facts.{Accepted, WithdrawalFit, SendFit, SettleFit}
-use Rattle.rules.proofs.Tests.{both, both-of, within-true, true-within, all-at}
+use Rattle.rules.proofs.Tests.{both, within-true, true-within, all-at}
 use Rattle.rules.proofs.Accepts.{fit, accepted-frame}
 use Rattle.tables.specs.Rows.{putAt, takenOut}
-use Rattle.desk.specs.Kept.{balanceKept, settledKept}
 use Rattle.desk.specs.Parts.{ofEight}
 use Rattle.frames.specs.Parts.{countsFrame, countsOf, listsFrame, inboxFrame, outboxFrame}
 use Rattle.frames.proofs.Frames.{frame-parts}
 use Rattle.desk.proofs.Chains.{Entry, chain, notBelow, chain-told}
 use Rattle.desk.proofs.Books.{Framed, framed, inbox-kept, outbox-kept, record-added, history-kept, payments-are, inbox-count, outbox-count, flight-count, history-count}
-use Rattle.outbox.specs.After.{paymentAt, withCounts, withdrawnDesk, sentDesk, settledDesk, CanWithdraw, CanSettle}
+use Rattle.outbox.specs.After.{paymentAt, withdrawnDesk, sentDesk, settledDesk, CanWithdraw, CanSettle}
 
 -- ---- the numbers of a row
 -- the first row of a part is the payment whose numbers lie from there on
@@ -321,24 +320,9 @@ settle-laid b n f h =
       no-record b f,
     )
 
--- ---- the steps of a withdrawal and of a settlement
-pub withdrawn-is : (d : Desk) (w : WithdrawalFields) → CanWithdraw d w
-    → (let kept = balanceKept d (w .member) (w .asset) (balance (d .balances) (w .member) (w .asset) - w .amount) in
-    withCounts kept (record { 0 = d .next .0 + 1 }) (d .payments + 1) (kept .inflight) (d .records + 1))
-    ≡ withdrawnDesk d w
-unfolding balanceKept withdrawnDesk debit
-withdrawn-is d w c =
-    rw (both-of (isMember (w .member)) (isAsset (w .asset)) (true-within 1 16 (w .member) (c .member)) (true-within 1 8 (w .asset) (c .asset)))
-
+-- ---- the steps of a settlement
 -- no settled total is above the ceiling
 pub settled-low : (d : Desk) (p : Payment) → CanSettle d p → ofEight (d .settled) (p .asset) ≤ ceiling
 settled-low d p c =
     rw (true-within 1 8 (p .asset) (c .asset))
     (leb-true (getD (d .settled) (p .asset - 1) 0) ceiling (all-at upToCeiling (d .settled) (p .asset - 1) 0 refl (c .settled)))
-
-pub settled-is : (d : Desk) (p : Payment) → CanSettle d p
-    → (let kept = settledKept d (p .asset) (ofEight (d .settled) (p .asset) + p .amount) in
-    withCounts kept (kept .next) (d .payments - 1) (d .inflight - 1) (kept .records))
-    ≡ settledDesk d p
-unfolding settledKept settledDesk raised total
-settled-is d p c = rw (true-within 1 8 (p .asset) (c .asset))

@@ -20,8 +20,8 @@ abbrev pub paymentAt : List ℕ → ℕ → Payment
 paymentAt t at = record { asset = getD t at 0; amount = getD t (at + 1) 0; payee = getD t (at + 2) 0; nonce = record { 0 = getD t (at + 3) 0 } }
 
 -- the desk with another next nonce, and other counts of payments, of those in flight, and of records
-abbrev pub withCounts : Desk → Nonce → ℕ → ℕ → ℕ → Desk
-withCounts d next payments inflight records =
+abbrev pub withNumbers : Desk → Nonce → ℕ → ℕ → ℕ → Desk
+withNumbers d next payments inflight records =
     record {
       balances = d .balances;
       holders = d .holders;
@@ -37,7 +37,7 @@ withCounts d next payments inflight records =
 
 unfoldable pub withdrawnDesk : Desk → WithdrawalFields → Desk
 withdrawnDesk d w =
-    withCounts
+    withNumbers
     (withLists d (debit (d .balances) (w .member) (w .asset) (w .amount)) (d .holders) (d .lifetime) (d .settled))
     (record { 0 = d .next .0 + 1 })
     (d .payments + 1)
@@ -45,11 +45,11 @@ withdrawnDesk d w =
     (d .records + 1)
 
 abbrev pub sentDesk : Desk → Desk
-sentDesk d = withCounts d (d .next) (d .payments) (d .inflight + 1) (d .records)
+sentDesk d = withNumbers d (d .next) (d .payments) (d .inflight + 1) (d .records)
 
 unfoldable pub settledDesk : Desk → Payment → Desk
 settledDesk d p =
-    withCounts
+    withNumbers
     (withLists d (d .balances) (d .holders) (d .lifetime) (raised (d .settled) (p .asset) (p .amount)))
     (d .next)
     (d .payments - 1)

@@ -1,5 +1,6 @@
-// The outbox: withdraw, send and settle. Each is lent all three tables, tests the whole frame, and
-// says in one equation what it answers and what it leaves of the desk and every row.
+// The outbox: withdraw, send and settle. Each call is its table of refusals (`.._reply`), which tests the whole
+// frame, and then what is done where nothing refuses it (`.._done`). Each says in one equation, of all three tables
+// that it is lent, what it answers and what it leaves of the desk and every row.
 use desk::answers::is_done;
 use desk::answers::refuse;
 use desk::fields::balance_of;
@@ -8,8 +9,9 @@ use desk::fields::is_asset;
 use desk::fields::is_member;
 use desk::fields::is_payee;
 use desk::fields::of_eight;
-use desk::keep::with_balance;
-use desk::keep::with_settled;
+use desk::keep::set_balance;
+use desk::keep::set_of_eight;
+use frames::Counts;
 use frames::counts_of;
 use frames::in_frame;
 use rules::answers::Answer;
@@ -25,8 +27,10 @@ ghost use mathlib.Core.Path.{_≡_};
 ghost use Prim.Native.Nat.{_≤_};
 ghost use lib.ListN.{getD};
 ghost use Rattle.rules.specs.declared.calls.Call.{Call};
+ghost use Rattle.rules.specs.Facts.{Accepted};
 ghost use Rattle.rules.specs.Replies.{told, plain};
 ghost use Rattle.rules.specs.Answer.{answer, replyNumber, bookOf, outcomeOf};
+ghost use Rattle.frames.specs.Parts.{deskWith};
 ghost use Rattle.outbox.specs.After.{CanWithdraw, CanSettle, paymentAt, withdrawnDesk, settledDesk};
 
 // Withdraw (member, asset, amount, payee): "asset, amount, payee and the next nonce join the end of
@@ -40,13 +44,38 @@ pub fn withdraw(
 ) -> Answered
     ensures { λ r. ⌜ outcomeOf r (now (inbox .entry)) (now (outbox .exit)) (now (history .exit)) ≡ answer (bookOf d (now (inbox .entry)) (now (outbox .entry)) (now (history .entry))) (Call.Withdraw w) ⌝ }
 {
-    let reply = withdraw_reply(d, inbox, outbox, history, w);
+    let counts = counts_of(d);
+    let reply = withdraw_reply(
+        &d.balances,
+        &d.holders,
+        &d.lifetime,
+        &d.settled,
+        counts,
+        inbox,
+        outbox,
+        history,
+        w,
+    );
     if !is_done(reply) {
         return Answered {
             answer: reply,
             desk: d,
         };
     }
+    withdraw_done(d, inbox, outbox, history, w)
+}
+
+// Where nothing is refused.
+pub fn withdraw_done(
+    d: Desk,
+    inbox: &[u64],
+    outbox: &mut [u64],
+    history: &mut [u64],
+    w: WithdrawalFields,
+) -> Answered
+    requires { ⌜ Accepted (bookOf d (now inbox) (now outbox) (now history)) (Call.Withdraw w) ⌝ }
+    ensures { λ r. ⌜ outcomeOf r (now (inbox .entry)) (now (outbox .exit)) (now (history .exit)) ≡ answer (bookOf d (now (inbox .entry)) (now (outbox .entry)) (now (history .entry))) (Call.Withdraw w) ⌝ }
+{
     let nonce = d.next;
     let queued = d.payments * 4;
     let payment = [w.asset, w.amount, w.payee, nonce.0];
@@ -56,25 +85,29 @@ pub fn withdraw(
     put_row(history, at, &row);
     let desk = withdrawn(d, w);
     Answered {
-        answer: reply,
+        answer: Answer::Done,
         desk,
     }
 }
 
 // The withdrawal's table of refusals, the largest number first.
-fn withdraw_reply(
-    d: Desk,
+pub fn withdraw_reply<'a>(
+    balances: &'a [u64; 128],
+    holders: &'a [u64; 8],
+    lifetime: &'a [u64; 8],
+    settled: &'a [u64; 8],
+    counts: Counts,
     inbox: &[u64],
     outbox: &[u64],
     history: &[u64],
     w: WithdrawalFields,
 ) -> Answer
-    ensures { λ r. ⌜ told r ≡ plain (replyNumber (bookOf d (now (inbox .entry)) (now (outbox .entry)) (now (history .entry))) (Call.Withdraw w)) ⌝ }
+    ensures { λ r. ⌜ told r ≡ plain (replyNumber (bookOf (deskWith (now (balances .entry)) (now (holders .entry)) (now (lifetime .entry)) (now (settled .entry)) counts) (now (inbox .entry)) (now (outbox .entry)) (now (history .entry))) (Call.Withdraw w)) ⌝ }
 {
-    let r = refuse(1024 <= d.records, Refusal::HistoryFull, Answer::Done);
-    let r = refuse(32 <= d.payments, Refusal::OutboxFull, r);
+    let r = refuse(1024 <= counts.records, Refusal::HistoryFull, Answer::Done);
+    let r = refuse(32 <= counts.payments, Refusal::OutboxFull, r);
     let r = refuse(
-        balance_of(&d.balances, w.member, w.asset) < w.amount,
+        balance_of(balances, w.member, w.asset) < w.amount,
         Refusal::Short,
         r,
     );
@@ -82,12 +115,11 @@ fn withdraw_reply(
     let r = refuse(!is_amount(w.amount), Refusal::BadAmount, r);
     let r = refuse(!is_asset(w.asset), Refusal::BadAsset, r);
     let r = refuse(!is_member(w.member), Refusal::BadMember, r);
-    let counts = counts_of(d);
     let framed = in_frame(
-        &d.balances,
-        &d.holders,
-        &d.lifetime,
-        &d.settled,
+        balances,
+        holders,
+        lifetime,
+        settled,
         counts,
         inbox,
         outbox,
@@ -101,9 +133,10 @@ fn withdrawn(d: Desk, w: WithdrawalFields) -> Desk
     requires { ⌜ CanWithdraw d w ⌝ }
     ensures { λ r. ⌜ r ≡ withdrawnDesk d w ⌝ }
 {
-    let held = balance_of(&d.balances, w.member, w.asset);
+    let mut after = d;
+    let held = balance_of(&after.balances, w.member, w.asset);
     let less = held - w.amount;
-    let mut after = with_balance(d, w.member, w.asset, less);
+    set_balance(&mut after.balances, w.member, w.asset, less);
     let given = d.next;
     let number = given.0 + 1;
     let next = Nonce(number);
@@ -118,13 +151,31 @@ fn withdrawn(d: Desk, w: WithdrawalFields) -> Desk
 pub fn send(d: Desk, inbox: &[u64], outbox: &[u64], history: &[u64]) -> Answered
     ensures { λ r. ⌜ outcomeOf r (now (inbox .entry)) (now (outbox .entry)) (now (history .entry)) ≡ answer (bookOf d (now (inbox .entry)) (now (outbox .entry)) (now (history .entry))) Call.Send ⌝ }
 {
-    let found = send_reply(d, inbox, outbox, history);
+    let counts = counts_of(d);
+    let found = send_reply(
+        &d.balances,
+        &d.holders,
+        &d.lifetime,
+        &d.settled,
+        counts,
+        inbox,
+        outbox,
+        history,
+    );
     if !is_done(found) {
         return Answered {
             answer: found,
             desk: d,
         };
     }
+    send_done(d, inbox, outbox, history)
+}
+
+// Where nothing is refused.
+pub fn send_done(d: Desk, inbox: &[u64], outbox: &[u64], history: &[u64]) -> Answered
+    requires { ⌜ Accepted (bookOf d (now inbox) (now outbox) (now history)) Call.Send ⌝ }
+    ensures { λ r. ⌜ outcomeOf r (now (inbox .entry)) (now (outbox .entry)) (now (history .entry)) ≡ answer (bookOf d (now (inbox .entry)) (now (outbox .entry)) (now (history .entry))) Call.Send ⌝ }
+{
     let at = d.inflight * 4;
     let payment = payment_at(outbox, at);
     let sent = Answer::Sent(payment);
@@ -137,20 +188,28 @@ pub fn send(d: Desk, inbox: &[u64], outbox: &[u64], history: &[u64]) -> Answered
 }
 
 // The send's table of refusals. The rows past those in flight wait.
-fn send_reply(d: Desk, inbox: &[u64], outbox: &[u64], history: &[u64]) -> Answer
-    ensures { λ r. ⌜ told r ≡ plain (replyNumber (bookOf d (now (inbox .entry)) (now (outbox .entry)) (now (history .entry))) Call.Send) ⌝ }
+pub fn send_reply<'a>(
+    balances: &'a [u64; 128],
+    holders: &'a [u64; 8],
+    lifetime: &'a [u64; 8],
+    settled: &'a [u64; 8],
+    counts: Counts,
+    inbox: &[u64],
+    outbox: &[u64],
+    history: &[u64],
+) -> Answer
+    ensures { λ r. ⌜ told r ≡ plain (replyNumber (bookOf (deskWith (now (balances .entry)) (now (holders .entry)) (now (lifetime .entry)) (now (settled .entry)) counts) (now (inbox .entry)) (now (outbox .entry)) (now (history .entry))) Call.Send) ⌝ }
 {
     let r = refuse(
-        d.payments <= d.inflight,
+        counts.payments <= counts.inflight,
         Refusal::NothingWaiting,
         Answer::Done,
     );
-    let counts = counts_of(d);
     let framed = in_frame(
-        &d.balances,
-        &d.holders,
-        &d.lifetime,
-        &d.settled,
+        balances,
+        holders,
+        lifetime,
+        settled,
         counts,
         inbox,
         outbox,
@@ -164,39 +223,73 @@ fn send_reply(d: Desk, inbox: &[u64], outbox: &[u64], history: &[u64]) -> Answer
 pub fn settle(d: Desk, inbox: &[u64], outbox: &mut [u64], history: &[u64], n: Nonce) -> Answered
     ensures { λ r. ⌜ outcomeOf r (now (inbox .entry)) (now (outbox .exit)) (now (history .entry)) ≡ answer (bookOf d (now (inbox .entry)) (now (outbox .entry)) (now (history .entry))) (Call.Settle n) ⌝ }
 {
-    let verdict = settle_reply(d, inbox, outbox, history, n);
+    let counts = counts_of(d);
+    let verdict = settle_reply(
+        &d.balances,
+        &d.holders,
+        &d.lifetime,
+        &d.settled,
+        counts,
+        inbox,
+        outbox,
+        history,
+        n,
+    );
     if !is_done(verdict) {
         return Answered {
             answer: verdict,
             desk: d,
         };
     }
+    settle_done(d, inbox, outbox, history, n)
+}
+
+// Where nothing is refused.
+pub fn settle_done(
+    d: Desk,
+    inbox: &[u64],
+    outbox: &mut [u64],
+    history: &[u64],
+    n: Nonce,
+) -> Answered
+    requires { ⌜ Accepted (bookOf d (now inbox) (now outbox) (now history)) (Call.Settle n) ⌝ }
+    ensures { λ r. ⌜ outcomeOf r (now (inbox .entry)) (now (outbox .exit)) (now (history .entry)) ≡ answer (bookOf d (now (inbox .entry)) (now (outbox .entry)) (now (history .entry))) (Call.Settle n) ⌝ }
+{
     let payment = payment_at(outbox, 0);
     take_out(outbox, 4, 0, d.payments);
     let desk = settled(d, payment);
     Answered {
-        answer: verdict,
+        answer: Answer::Done,
         desk,
     }
 }
 
 // The settlement's table of refusals. The nonce is read on any book: out of frame it does not matter
 // what is read, since BadBook stands before NotNext.
-fn settle_reply(d: Desk, inbox: &[u64], outbox: &[u64], history: &[u64], n: Nonce) -> Answer
-    ensures { λ r. ⌜ told r ≡ plain (replyNumber (bookOf d (now (inbox .entry)) (now (outbox .entry)) (now (history .entry))) (Call.Settle n)) ⌝ }
+pub fn settle_reply<'a>(
+    balances: &'a [u64; 128],
+    holders: &'a [u64; 8],
+    lifetime: &'a [u64; 8],
+    settled: &'a [u64; 8],
+    counts: Counts,
+    inbox: &[u64],
+    outbox: &[u64],
+    history: &[u64],
+    n: Nonce,
+) -> Answer
+    ensures { λ r. ⌜ told r ≡ plain (replyNumber (bookOf (deskWith (now (balances .entry)) (now (holders .entry)) (now (lifetime .entry)) (now (settled .entry)) counts) (now (inbox .entry)) (now (outbox .entry)) (now (history .entry))) (Call.Settle n)) ⌝ }
 {
     let due = number_at(outbox, 3);
     let r = refuse(
-        (d.inflight == 0) | (due != n.0),
+        (counts.inflight == 0) | (due != n.0),
         Refusal::NotNext,
         Answer::Done,
     );
-    let counts = counts_of(d);
     let framed = in_frame(
-        &d.balances,
-        &d.holders,
-        &d.lifetime,
-        &d.settled,
+        balances,
+        holders,
+        lifetime,
+        settled,
         counts,
         inbox,
         outbox,
@@ -211,8 +304,9 @@ fn settled(d: Desk, p: Payment) -> Desk
     requires { ⌜ CanSettle d p ⌝ }
     ensures { λ r. ⌜ r ≡ settledDesk d p ⌝ }
 {
-    let more = of_eight(&d.settled, p.asset) + p.amount;
-    let mut after = with_settled(d, p.asset, more);
+    let mut after = d;
+    let more = of_eight(&after.settled, p.asset) + p.amount;
+    set_of_eight(&mut after.settled, p.asset, more);
     after.payments = d.payments - 1;
     after.inflight = d.inflight - 1;
     after

@@ -6,7 +6,6 @@ use runner::feed::Feeding;
 use runner::feed::close;
 use runner::feed::run_some;
 use runner::start::start;
-ghost use Prim.Native.Nat.{_≤_};
 ghost use mathlib.Core.Path.{_≡_};
 ghost use lib.ListN.{length};
 ghost use mathlib.Core.Bool.{true};

@@ -6,14 +6,14 @@ use mathlib.Core.Bool.{Bool, true, false, not, _||_, false≢true}
 use native.Mathlib.Omega.{arith}
 use lib.ListN.{length}
 use borrow.Author.Tests.{le-ltb}
-use mathlib.Core.List.{List, [], _∷_, map}
-use Rattle.promises.specs.Types.{Nonce, Lot, Call, Answer, Origin}
+use mathlib.Core.List.{List, [], _∷_}
+use Rattle.promises.specs.Types.{Nonce, Lot, Call}
 use Rattle.rules.specs.State.{Book, view, historyOf}
 use Rattle.rules.specs.Replies.{Reply, numberOf, told, toldOrigin, smallest, if-done}
 use Rattle.rules.specs.Limits.{historyRows}
 use Rattle.rules.specs.Frame.{inFrame}
 use Rattle.rules.specs.History.{historyInFrame}
-use Rattle.rules.specs.Refusals.{refusals, traceRefusals, badMember, badAsset}
+use Rattle.rules.specs.Refusals.{refusals, traceRefusals}
 use Rattle.lots.proofs.TraceJoin.{records-fit}
 use Rattle.rules.specs.Answer.{answer, replyNumber, frameTest, doneAnswer, badHistory, replyWith, traceNumber, traceAnswer, provenanceNumber, provenanceAnswer}
 use Rattle.promises.specs.Demand1.{isOneOf}

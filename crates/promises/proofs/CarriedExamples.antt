@@ -8,7 +8,7 @@ use Rattle.rules.specs.Lists.{bytes}
 use Rattle.rules.specs.State.{inboxOf}
 use Rattle.rules.specs.Cases.{deposit}
 use Rattle.rules.proofs.Compute.{compute}
-use Rattle.replies.specs.Writing.{putByte, put}
+use Rattle.pages.specs.Writing.{putByte, put}
 use Rattle.runner.specs.Machine.{start, held-with, fed, written, feeds, writes, unfinished, unfinishedText, ended, closing, writesAll}
 use Rattle.runner.specs.Kept.{Begins, RunSome}
 use Rattle.promises.specs.Carried.{callOf, callsOf, callsIn, after, Chain}

@@ -1,17 +1,16 @@
 -- The frame as facts about the state, with the tables' sizes apart: what a book in frame gives, and what puts a laid book in frame.
-use Prim.Native.Nat.{ℕ, zero, suc, _≤_}
-use mathlib.Core.Path.{_≡_, refl}
-use mathlib.Core.Bool.{Bool, true}
-use mathlib.Core.List.{List, [], _∷_, _++_}
+use Prim.Native.Nat.{_≤_}
+use mathlib.Core.Path.{_≡_}
+use mathlib.Core.Bool.{true}
+use mathlib.Core.List.{_++_}
 use native.Mathlib.Omega.{arith}
-use lib.Dec.{leb}
-use lib.ListN.{length, getD, take, drop, length-append, take-append-drop}
+use lib.ListN.{length, take, drop, length-append, take-append-drop}
 use borrow.Author.Tests.{leb-true, le-leb, eqb-true, eq-eqb}
 use Rattle.rules.specs.Limits.{inboxRows, outboxRows, historyRows, highestNumber, highestNext, isMember}
 use Rattle.rules.specs.Lists.{all, ands}
 use Rattle.rules.specs.Tables.{depositShape, paymentShape, recordShape}
-use Rattle.rules.specs.State.{State, Book, view, laid, deskOf, payments, inboxOf, outboxOf}
-use Rattle.rules.specs.Frame.{hasRows, upToCeiling, depositInLimits, paymentInLimits, numbersRise, noncesRise, inFrame}
+use Rattle.rules.specs.State.{State, Book, view, laid, deskOf, payments, outboxOf}
+use Rattle.rules.specs.Frame.{upToCeiling, depositInLimits, paymentInLimits, numbersRise, noncesRise, inFrame}
 use Rattle.rules.proofs.Laying.{length-rows, rows-laid}
 use Rattle.rules.proofs.Shapes.{depositSound, paymentSound}
 use Rattle.rules.proofs.Tests.{ands-at}

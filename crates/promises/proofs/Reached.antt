@@ -1,16 +1,16 @@
 -- What every reached book keeps: the invariants in one record, true of an empty book, kept by every accepted call, and with them the frame.
-use Prim.Native.Nat.{ℕ, zero, suc, _-_}
+use Prim.Native.Nat.{ℕ, _-_}
 use mathlib.Core.Path.{_≡_, refl}
-use mathlib.Core.Bool.{Bool, true, false, _&&_, cond}
+use mathlib.Core.Bool.{Bool, true, false, cond}
 use mathlib.Core.List.{List, [], _∷_, _++_}
 use native.Mathlib.Omega.{arith}
 use lib.ListN.{getD, replicate, getD-replicate}
 use Rattle.promises.specs.Types.{Call}
-use Rattle.rules.specs.Limits.{isMember, isAsset, domainCount}
+use Rattle.rules.specs.Limits.{isAsset, domainCount}
 use Rattle.rules.specs.Lists.{all, ands, sumOf, those}
 use Rattle.rules.specs.Tables.{rowsOf}
 use Rattle.rules.specs.State.{State, Book, view, deskOf, laid, emptyState, Empty}
-use Rattle.rules.specs.Effects.{cell, effect, balance, holder, total}
+use Rattle.rules.specs.Effects.{effect, balance, holder, total}
 use Rattle.rules.specs.Frame.{inFrame, numbersRise, noncesRise, noncesFrom}
 use Rattle.rules.specs.History.{emptyStanding, replays, withdrawals}
 use Rattle.rules.specs.Runs.{run, gather}

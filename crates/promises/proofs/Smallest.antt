@@ -10,8 +10,8 @@ use borrow.Author.Tests.{leb-true, leb-false, le-leb, eq-eqb}
 use Rattle.promises.specs.Types.{Call}
 use Rattle.rules.specs.Lists.{all, any, those}
 use Rattle.rules.specs.State.{Book, view}
-use Rattle.rules.specs.Replies.{numberOf, smaller, smallest}
-use Rattle.rules.specs.Refusals.{refusals, traceRefusals}
+use Rattle.rules.specs.Replies.{smaller, smallest}
+use Rattle.rules.specs.Refusals.{refusals}
 use Rattle.rules.specs.Answer.{frameTest, replyNumber}
 use Rattle.rules.proofs.Accepts.{table-numbered}
 use Rattle.rules.proofs.Digits.{all-imply}

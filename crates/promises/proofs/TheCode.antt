@@ -1,7 +1,7 @@
 -- What carries the demands to the code, proved.
 use Prim.Native.Nat.{ℕ}
 use mathlib.Core.Path.{_≡_, refl, sym, ap, _∙_}
-use mathlib.Core.List.{List, [], _∷_, _++_}
+use mathlib.Core.List.{List, [], _∷_}
 use Rattle.promises.specs.Types.{Call}
 use Rattle.rules.specs.State.{Book, emptyBook}
 use Rattle.rules.specs.Answer.{answer}

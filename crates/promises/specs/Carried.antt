@@ -8,7 +8,7 @@ use Rattle.rules.specs.Lists.{those, joined}
 use Rattle.rules.specs.State.{Book, view}
 use Rattle.rules.specs.Transcript.{InputLine, inputLines, readInput, transcript}
 use Rattle.rules.specs.Answer.{answer, bookOf}
-use Rattle.replies.specs.Writing.{Page}
+use Rattle.pages.specs.Writing.{Page}
 use Rattle.steps.specs.declared.step.Stepped.{Stepped}
 use Rattle.steps.specs.Step.{repliedOf, replied}
 use Rattle.runner.specs.Machine.{Machine, start, feeds}
@@ -64,7 +64,7 @@ pub data Chain : List ℕ → List ℕ → Kept → Type 0 where
   reads : {read given : List ℕ} {before left : Kept} (chunk : List ℕ) (next : ℕ) → Chain read given before → RunSome before chunk next left → Chain (read ++ take next chunk) given left
   gives : {read given : List ℕ} {k : Kept} (out : List ℕ) → Chain read given k → Chain read (given ++ onPage k) (turned k out)
 
--- calls one after the other, from some book on, each a step of the code by its contract (crate steps, specs/Step), whatever line number and page it is given
+-- calls one after the other, from some book on, each with the equation of the contract of `step` (crate steps, specs/Step; a call that is refused has it too, with the book as it was), whatever line number and page it is given
 pub data Steps : Book → List Call → Book → Type 0 where
   none : {b : Book} → Steps b [] b
   step : {b met : Book} {cs : List Call} (c : Call) (line : ℕ) (text : Page) (r : Stepped) (inbox outbox history out : List ℕ)

@@ -4,9 +4,8 @@ pub mod frame;
 pub mod origin;
 
 use crate::frame::history_in_frame;
-use frames::counts_of;
+use frames::Counts;
 use frames::in_frame;
-use rules::desk::Desk;
 use rules::rows::Record;
 ghost use mathlib.Core.Path.{_≡_};
 ghost use mathlib.Core.Bool.{_&&_};
@@ -17,6 +16,7 @@ ghost use Rattle.rules.specs.State.{historyOf};
 ghost use Rattle.rules.specs.Frame.{inFrame};
 ghost use Rattle.rules.specs.History.{historyInFrame};
 ghost use Rattle.rules.specs.Answer.{bookOf};
+ghost use Rattle.frames.specs.Parts.{deskWith};
 ghost use Rattle.tables.proofs.Rest.{rowAt};
 
 // The record in row i.
@@ -35,19 +35,27 @@ pub fn record_at(history: &[u64], i: usize) -> Record
 }
 
 // Whether a book is in frame, "for provenance and trace also" its history.
-pub fn book_in_frame(d: Desk, inbox: &[u64], outbox: &[u64], history: &[u64]) -> bool
-    ensures { λ r. ⌜ r ≡ inFrame (bookOf d (now (inbox .entry)) (now (outbox .entry)) (now (history .entry))) && historyInFrame (historyOf (bookOf d (now (inbox .entry)) (now (outbox .entry)) (now (history .entry)))) ⌝ }
+pub fn book_in_frame<'a>(
+    balances: &'a [u64; 128],
+    holders: &'a [u64; 8],
+    lifetime: &'a [u64; 8],
+    settled: &'a [u64; 8],
+    counts: Counts,
+    inbox: &[u64],
+    outbox: &[u64],
+    history: &[u64],
+) -> bool
+    ensures { λ r. ⌜ r ≡ inFrame (bookOf (deskWith (now (balances .entry)) (now (holders .entry)) (now (lifetime .entry)) (now (settled .entry)) counts) (now (inbox .entry)) (now (outbox .entry)) (now (history .entry))) && historyInFrame (historyOf (bookOf (deskWith (now (balances .entry)) (now (holders .entry)) (now (lifetime .entry)) (now (settled .entry)) counts) (now (inbox .entry)) (now (outbox .entry)) (now (history .entry)))) ⌝ }
 {
-    let counts = counts_of(d);
     let framed = in_frame(
-        &d.balances,
-        &d.holders,
-        &d.lifetime,
-        &d.settled,
+        balances,
+        holders,
+        lifetime,
+        settled,
         counts,
         inbox,
         outbox,
         history,
     );
-    framed & history_in_frame(history, d.records)
+    framed & history_in_frame(history, counts.records)
 }

@@ -1,2 +1,2 @@
+pub mod ReplyLaws
 pub mod Once
-pub mod PageLaws

@@ -1,9 +1,9 @@
 -- What acceptance gives, and what a call leaves: shared by the proofs of the code and by the promises.
 use Prim.Native.Nat.{ℕ, zero, suc, _+_, _≤_, _<_}
-use mathlib.Core.Path.{_∙_, _≡_, refl, ap}
+use mathlib.Core.Path.{_∙_, _≡_, refl}
 use mathlib.Core.Logic.{_≢_}
 use mathlib.Core.Bool.{true, false, not, _&&_, _||_}
-use mathlib.Core.List.{List, [], _∷_, _++_, append-assoc, append-nil}
+use mathlib.Core.List.{List, _∷_}
 use native.Mathlib.Omega.{arith}
 use lib.Dec.{leb, ltb, eqb}
 use lib.ListN.{length, getD}
@@ -12,7 +12,7 @@ use Rattle.rules.specs.Types.{Nonce, Deposit, ClaimFields, TransferField
 use Rattle.rules.specs.Limits.{ceiling, highestNumber, inboxRows, outboxRows, historyRows}
 use Rattle.rules.specs.Lists.{all, any}
 use Rattle.rules.specs.State.{Book, view, laid, historyOf, payments}
-use Rattle.rules.specs.Replies.{Reply, numberOf, told, if-done}
+use Rattle.rules.specs.Replies.{numberOf, if-done}
 use Rattle.rules.specs.Refusals.{refusals, traceRefusals, full}
 use Rattle.rules.specs.Effects.{effect, balance, holder, matches, total, oldest}
 use Rattle.rules.specs.Frame.{inFrame}

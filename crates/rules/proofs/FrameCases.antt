@@ -1,15 +1,9 @@
 -- Every clause of the frame bites: a book that breaks it gets BadBook, and the sample that it was made of does not. By computation.
-use Prim.Native.Nat.{ℕ}
 use mathlib.Core.Path.{_≡_, refl}
-use mathlib.Core.Bool.{Bool, true, not, _&&_}
-use mathlib.Core.List.{List, [], _∷_, _++_}
+use mathlib.Core.Bool.{true, _&&_}
+use mathlib.Core.List.{[], _∷_, _++_}
 use lib.Dec.{eqb}
-use lib.ListN.{length}
-use Rattle.rules.specs.Types.{Call}
 use Rattle.rules.specs.Lists.{all}
-use Rattle.rules.specs.State.{Book, historyOf}
-use Rattle.rules.specs.Frame.{inFrame}
-use Rattle.rules.specs.History.{historyInFrame}
 use Rattle.rules.specs.Answer.{replyNumber}
 use Rattle.rules.specs.Cases.{sign, trace}
 use Rattle.rules.specs.FrameCases.{sample, outOfFrame, tooManyRows, badHistories}

@@ -1,14 +1,13 @@
 -- The layout laws, once for every shape of row: the rows read back from a laid table are the rows; laying what was read changes nothing; and for each kind of edit, what laying the edited rows does to the flat table.
 use Prim.Native.Nat.{ℕ, zero, suc, _+_, _-_, _*_, _≤_, _<_, max}
-use mathlib.Core.Path.{_≡_, refl, sym, ap, ap₂, _∙_, subst}
+use mathlib.Core.Path.{_≡_, refl, ap, ap₂, _∙_}
 use mathlib.Core.List.{List, [], _∷_, _++_, append-assoc, append-nil}
 use native.Mathlib.Nat.{suc-mul, zero-mul, one-mul, zero-add, suc-add, add-comm, add-mul}
 use native.Mathlib.Omega.{arith}
-use lib.ListN.{length, getD, take, drop, set, replicate, length-append, length-drop, length-set, length-take}
-use lib.Seq.{take-add, take-at, drop-at, drop-drop, take-all, length-take-le, set-split, take-append-le}
-use Rattle.rules.specs.Types.{Deposit, Payment, Record}
+use lib.ListN.{length, take, drop, set, replicate, length-append, length-drop, length-set}
+use lib.Seq.{take-add, take-at, drop-at, drop-drop, length-take-le, set-split}
 use Rattle.rules.specs.Lists.{joined}
-use Rattle.rules.specs.Tables.{Shape, Sound, Edit, rowsOf, lay, edited, splice, withoutRow, editedTable, HasRoom, depositShape, paymentShape, recordShape}
+use Rattle.rules.specs.Tables.{Shape, Sound, Edit, rowsOf, lay, edited, splice, withoutRow, editedTable, HasRoom}
 
 pub joined-append : {A B : Type 0} (f : A → List B) (xs ys : List A) → joined f (xs ++ ys) ≡ joined f xs ++ joined f ys
 unfolding joined

@@ -1,13 +1,12 @@
 -- The readings that look right, shown wrong: what the rules write for each session, by computation.
-use Prim.Native.Nat.{ℕ, _+_}
 use mathlib.Core.Path.{_≡_, refl}
-use mathlib.Core.List.{List, [], _∷_, map}
+use mathlib.Core.List.{[], _∷_, map}
 use Rattle.rules.specs.Lists.{bytes}
 use Rattle.rules.specs.Transcript.{transcript}
 use Rattle.rules.specs.State.{emptyBook}
 use Rattle.rules.specs.Runs.{run}
 use Rattle.rules.specs.Sheet.{acceptedDeposits, unclaimedSum, balancesSum, outboxSum, settledSum, BalanceSheet, chainTotal}
-use Rattle.rules.specs.Readings.{Reading, readings, unclaimedAndQueued}
+use Rattle.rules.specs.Readings.{readings, unclaimedAndQueued}
 use Rattle.rules.proofs.Compute.{compute}
 
 pub readings-hold : map (λ r. transcript (bytes (r .written))) readings ≡ map (λ r. bytes (r .answered)) readings

@@ -1,9 +1,9 @@
 -- The three shapes are sound, so the layout laws hold of every table; and a book's state is what was laid.
 use Prim.Native.Nat.{ℕ}
 use mathlib.Core.Path.{_≡_, refl}
-use mathlib.Core.List.{List, [], _∷_, _++_}
+use mathlib.Core.List.{List, [], _∷_}
 use native.Mathlib.Omega.{arith}
-use lib.ListN.{length, getD, take, drop}
+use lib.ListN.{length, getD}
 use lib.Seq.{take-append-seam, drop-append-seam}
 use Rattle.rules.specs.Tables.{Sound, depositShape, paymentShape, recordShape}
 use Rattle.rules.specs.State.{State, Book, view, deskOf, laid, payments}

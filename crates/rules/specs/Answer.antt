@@ -1,5 +1,5 @@
 -- What every call answers and leaves, on every book: out of frame comes first, a refusal leaves everything as found, and what is done is laid back into the tables.
-use Prim.Native.Nat.{ℕ, _+_, _-_}
+use Prim.Native.Nat.{ℕ}
 use mathlib.Core.Bool.{Bool, not, _||_}
 use mathlib.Core.List.{List, [], _∷_, _++_}
 use lib.ListN.{length, drop, replicate}

@@ -1,10 +1,10 @@
 -- Document 01, "The calls": what each does where nothing is refused, part by part. What a call does to one part depends on the call and that part alone.
-use Prim.Native.Nat.{ℕ, zero, suc, _+_, _-_, _*_}
+use Prim.Native.Nat.{ℕ, _+_, _-_, _*_}
 use mathlib.Core.Bool.{Bool, _&&_, cond}
 use mathlib.Core.List.{List, [], _∷_, _++_}
 use lib.Dec.{eqb}
 use lib.ListN.{getD, set, take, drop}
-use Rattle.rules.specs.Types.{DepositNumber, Nonce, Deposit, Payment, Record, ClaimFields, WithdrawalFields, Call}
+use Rattle.rules.specs.Types.{Nonce, Deposit, Payment, Record, ClaimFields, WithdrawalFields, Call}
 use Rattle.rules.specs.Limits.{isMember, isAsset, isDomain, assetCount}
 use Rattle.rules.specs.Lists.{indexOf}
 use Rattle.rules.specs.Tables.{Edit, edited}

@@ -1,5 +1,5 @@
 -- Document 01, "Out of frame", every clause but the history's: each line is a clause of that paragraph, or a part of one, and says the opposite.
-use Prim.Native.Nat.{ℕ, zero, suc, _+_, _-_, _*_}
+use Prim.Native.Nat.{ℕ, _+_, _-_, _*_}
 use mathlib.Core.Bool.{Bool, true, _&&_}
 use mathlib.Core.List.{List, [], _∷_}
 use lib.Dec.{leb, ltb, eqb}

@@ -1,13 +1,13 @@
 -- Document 01 on the history: what a record does by its kind, provenance, the statement, and the test of a history that was not kept by us.
-use Prim.Native.Nat.{ℕ, zero, suc, _+_, _-_, _*_}
+use Prim.Native.Nat.{ℕ, zero, suc, _+_, _-_}
 use mathlib.Core.Bool.{Bool, true, false, not, _&&_, _||_, cond}
-use mathlib.Core.List.{List, [], _∷_, _++_}
-use lib.Dec.{leb, ltb, eqb}
-use lib.ListN.{length, getD, set, replicate}
+use mathlib.Core.List.{List, [], _∷_}
+use lib.Dec.{leb, eqb}
+use lib.ListN.{length, getD, set}
 use Rattle.rules.specs.Types.{Record}
 use Rattle.rules.specs.Limits.{isMember, isAsset, isDomain, isAmount, isPayee, isDepositNumber}
 use Rattle.rules.specs.Lists.{those}
-use Rattle.rules.specs.State.{State, emptyState}
+use Rattle.rules.specs.State.{emptyState}
 use Rattle.rules.specs.Effects.{balance, credit, debit, holder}
 
 -- "Kind numbers are 1 to 4 and nothing else"

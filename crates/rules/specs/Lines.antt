@@ -1,10 +1,10 @@
 -- Document 01, "Lines": fields, numbers, the nine forms of a line, and a writer of lines. A line's bytes stand without its line feed.
 use Prim.Native.Nat.{ℕ, zero, suc, _+_, _-_, _*_, _/_, _%_}
-use mathlib.Core.Bool.{Bool, true, false, not, _&&_, _||_, cond}
+use mathlib.Core.Bool.{Bool, not, _&&_, cond}
 use mathlib.Core.List.{List, [], _∷_, _++_}
 use lib.Dec.{leb, ltb, eqb}
 use lib.ListN.{length, getD, take, drop}
-use Rattle.rules.specs.Types.{DepositNumber, Nonce, Call, Field, Line}
+use Rattle.rules.specs.Types.{Call, Field, Line}
 use Rattle.rules.specs.Limits.{within, mostBytes, mostDigits, highestField}
 use Rattle.rules.specs.Lists.{all, same, indexOf, joined, bytes}
 

@@ -1,10 +1,9 @@
 -- Document 01, "Tracing a payment": lots, replay and trace. The lots of all members and assets stand in one list; a member's line for an asset is those of its lots, in order.
-use Prim.Native.Nat.{ℕ, zero, suc, _+_, _-_, _*_}
-use mathlib.Core.Bool.{Bool, true, false, not, _&&_, _||_, cond}
+use Prim.Native.Nat.{ℕ, _-_}
+use mathlib.Core.Bool.{Bool, _&&_, cond}
 use mathlib.Core.List.{List, [], _∷_, _++_, map}
-use lib.Dec.{leb, ltb, eqb}
-use lib.ListN.{length}
-use Rattle.rules.specs.Types.{DepositNumber, Nonce, Record, Lot}
+use lib.Dec.{leb, eqb}
+use Rattle.rules.specs.Types.{Nonce, Record, Lot}
 use Rattle.rules.specs.Lists.{those}
 use Rattle.rules.specs.History.{Kind, kindOf, isWithdrawal}
 

@@ -1,5 +1,4 @@
 -- Document 01, "Readings that look right": for each a session in which the wrong reading would write other lines. What the rules write stands beside it; what the wrong reading would write is said above.
-use Prim.Native.Nat.{ℕ}
 use Prim.Native.String.{String}
 use mathlib.Core.List.{List, [], _∷_}
 use Rattle.rules.specs.Types.{Call}

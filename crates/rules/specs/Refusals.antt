@@ -1,13 +1,13 @@
 -- Document 01, "Reply numbers": for each call its table of refusals, the number and when it is given. Two stand apart: Malformed is about the line (Lines), BadBook about the book (Frame, History).
-use Prim.Native.Nat.{ℕ, zero, suc, _+_, _-_, _*_}
-use mathlib.Core.Bool.{Bool, not, _&&_, _||_}
-use mathlib.Core.List.{List, [], _∷_, _++_}
+use Prim.Native.Nat.{ℕ, _+_}
+use mathlib.Core.Bool.{Bool, not, _||_}
+use mathlib.Core.List.{List, [], _∷_}
 use lib.Dec.{leb, ltb, eqb}
 use lib.ListN.{length}
-use Rattle.rules.specs.Types.{Deposit, Payment, Record, Nonce, Refusal, Call}
+use Rattle.rules.specs.Types.{Deposit, Nonce, Refusal, Call}
 use Rattle.rules.specs.Limits.{isMember, isAsset, isDomain, isAmount, isPayee, ceiling, highestNumber, inboxRows, outboxRows, historyRows}
 use Rattle.rules.specs.Lists.{any}
-use Rattle.rules.specs.State.{Outside, State, payments}
+use Rattle.rules.specs.State.{State, payments}
 use Rattle.rules.specs.Replies.{refuse}
 use Rattle.rules.specs.Effects.{balance, holder, matches, total, oldest}
 use Rattle.rules.specs.History.{withdrawals}

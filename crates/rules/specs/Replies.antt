@@ -2,7 +2,7 @@
 use Prim.Native.Nat.{ℕ, zero, suc, min}
 use mathlib.Core.Bool.{Bool, cond}
 use mathlib.Core.List.{List, [], _∷_}
-use Rattle.rules.specs.Types.{Payment, Refusal, Answer, Origin}
+use Rattle.rules.specs.Types.{Refusal, Answer, Origin}
 
 unfoldable pub numberOf : Refusal → ℕ
 numberOf Refusal.Malformed = 1

@@ -1,7 +1,7 @@
 -- The state of a book, without counts: the desk's numbers with three lists of rows. The outbox is two lists, the payments in flight and those that wait.
-use Prim.Native.Nat.{ℕ, zero, suc, _+_, _-_, _*_}
+use Prim.Native.Nat.{ℕ, _*_}
 use mathlib.Core.Path.{_≡_}
-use mathlib.Core.List.{List, [], _∷_, _++_}
+use mathlib.Core.List.{List, [], _++_}
 use lib.ListN.{length, take, drop, replicate}
 use Rattle.rules.specs.Types.{DepositNumber, Nonce, Deposit, Payment, Record, Desk}
 use Rattle.rules.specs.Limits.{inboxRows, outboxRows, historyRows, memberCount, assetCount, domainCount}

@@ -3,7 +3,7 @@ use Prim.Native.Nat.{ℕ, zero, suc, _+_, _-_, _*_, _≤_, _<_, max}
 use mathlib.Core.Path.{_≡_}
 use mathlib.Core.List.{List, [], _∷_, _++_}
 use lib.ListN.{length, getD, take, drop, set, replicate}
-use Rattle.rules.specs.Types.{DepositNumber, Nonce, Deposit, Payment, Record}
+use Rattle.rules.specs.Types.{Deposit, Payment, Record}
 use Rattle.rules.specs.Lists.{joined}
 
 -- how a kind of row lies: its width, its numbers one after the other, and the row that such numbers are read as

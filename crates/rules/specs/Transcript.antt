@@ -1,10 +1,10 @@
 -- Document 01, the book runner: from all the bytes read to all the bytes written.
-use Prim.Native.Nat.{ℕ, zero, suc, _+_}
+use Prim.Native.Nat.{ℕ, _+_}
 use mathlib.Core.Bool.{Bool, true, false, cond}
 use mathlib.Core.List.{List, [], _∷_, _++_}
 use lib.Dec.{eqb}
-use lib.ListN.{length, take}
-use Rattle.rules.specs.Types.{Lot, Call, Line, Refusal, Answer, Tally}
+use lib.ListN.{take}
+use Rattle.rules.specs.Types.{Lot, Line, Refusal, Answer, Tally}
 use Rattle.rules.specs.Limits.{mostLines}
 use Rattle.rules.specs.Lists.{joined, bytes}
 use Rattle.rules.specs.State.{Book, emptyBook}

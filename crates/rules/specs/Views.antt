@@ -1,9 +1,8 @@
 -- Demand 3: what the outside sees and which calls it is about; what one member sees and which calls name that member.
 use Prim.Native.Nat.{ℕ}
-use mathlib.Core.Bool.{Bool, true, false, _&&_, _||_, not}
+use mathlib.Core.Bool.{Bool, false, _&&_, _||_, not}
 use mathlib.Core.List.{List, [], _∷_, map}
-use lib.Dec.{ltb, eqb}
-use lib.ListN.{length}
+use lib.Dec.{eqb}
 use Rattle.rules.specs.Types.{Nonce, Deposit, Payment, Record, Call}
 use Rattle.rules.specs.Limits.{assetCount, domainCount, historyRows, outboxRows}
 use Rattle.rules.specs.Lists.{those, joined}

@@ -1,5 +1,5 @@
--- A line that is Malformed, and the end of the input: what is held of a last line is Malformed, and the tally comes last.
-use Prim.Native.Nat.{ℕ, zero, suc, _+_, _≤_, _<_}
+-- The end of the input: what is held of a last line is Malformed, and the tally comes last.
+use Prim.Native.Nat.{ℕ, zero, suc, _≤_, _<_}
 use mathlib.Core.Path.{_≡_, refl}
 use mathlib.Core.List.{List, [], _∷_}
 use native.Mathlib.Omega.{arith}
@@ -8,29 +8,14 @@ use borrow.Author.Tests.{lt-ltb, le-ltb}
 use Rattle.rules.specs.declared.calls.Line.{Line}
 use Rattle.rules.specs.declared.answers.Tally.{Tally}
 use Rattle.rules.specs.Replies.{told, numberOf}
-use Rattle.rules.specs.Transcript.{answerLine, replyText, tallied, endText}
-use Rattle.replies.specs.Writing.{Page, put, replyLine}
-use Rattle.replies.proofs.PageLaws.{put-then, reply-line}
+use Rattle.rules.specs.Transcript.{answerLine, tallied, endText}
+use Rattle.pages.specs.Writing.{Page, put}
+use Rattle.replies.specs.Writing.{replyLine}
+use Rattle.pages.proofs.PageLaws.{put-then}
+use Rattle.replies.proofs.ReplyLaws.{reply-line}
 use Rattle.runner.specs.declared.running.Running.{Running}
-use Rattle.runner.specs.Machine.{outcomeFor, answered, unfinished, unfinishedText, ended, closing}
-use Rattle.runner.specs.Running.{machineOf, Counted, malformed}
-
--- ---- a line that is Malformed: the book is left as it was
-module _ (run : Running) (i o h : List ℕ) (t : Tally) (c : t ≡ tallied (run .tally) 1) where
-  abbrev pub told-off : Running
-  told-off = record { desk = run .desk; tally = t; line = run .line + 1 }
-
-  pub malformed-answered : machineOf told-off i o h [] ≡ answered (machineOf run i o h []) (outcomeFor (machineOf run i o h []) Line.Malformed)
-  unfolding answerLine told numberOf
-  malformed-answered = rw c
-
-  pub malformed-counted : Counted run → run .line ≤ 100000 → Counted told-off
-  unfolding tallied
-  malformed-counted f g = rw c (record { done = omega arith; other = omega arith; few = omega arith })
-
-pub malformed-text : (run : Running) (i o h : List ℕ) (p : Page) {q : Page} → q ≡ put p (replyLine (run .line) (told malformed)) → q ≡ put p (replyText (run .line) (outcomeFor (machineOf run i o h []) Line.Malformed))
-unfolding answerLine
-malformed-text run i o h p e = rw (reply-line (run .line) (outcomeFor (machineOf run i o h []) Line.Malformed) refl) e
+use Rattle.runner.specs.Machine.{outcomeFor, unfinished, unfinishedText, ended, closing}
+use Rattle.runner.specs.Running.{machineOf, malformed}
 
 module _ (run : Running) (i o h hold : List ℕ) (p : Page) where
   pub closed-stopped : (n : ℕ) → 100000 < run .line → {q : Page} → q ≡ put p (endText (run .tally)) → q ≡ put p (closing (machineOf run i o h (take n hold)))
@@ -41,7 +26,7 @@ module _ (run : Running) (i o h hold : List ℕ) (p : Page) where
   unfolding closing ended unfinished unfinishedText
   closed-whole n s z e = rw (z, le-ltb 100000 (run .line) s) e
 
-pub closed-unfinished : (run : Running) (i o h hold : List ℕ) (p : Page) (n : ℕ) → run .line ≤ 100000 → (n ≡ 0 → ⊥) → length hold ≡ 121 → {q r : Page} (t : Tally) → q ≡ put p (replyLine (run .line) (told malformed)) → t ≡ tallied (run .tally) 1
+pub closed-unfinished : (run : Running) (i o h hold : List ℕ) (p : Page) (n : ℕ) → run .line ≤ 100000 → (n ≡ 0 → ⊥) → length hold ≡ 121 → {q r : Page} (t : Tally) → q ≡ put p (replyLine (run .line) (told malformed)) → t ≡ tallied (run .tally) (told malformed .number)
     → r ≡ put q (endText t) → r ≡ put p (closing (machineOf run i o h (take n hold)))
 unfolding closing ended unfinished unfinishedText answerLine told numberOf
 closed-unfinished run i o h hold p zero s z l t e c f = absurd (z refl)

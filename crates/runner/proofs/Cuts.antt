@@ -1,21 +1,17 @@
 -- However the input is cut into reads, all that the machine writes, joined, is the transcript of all that was read.
-use Prim.Native.Nat.{ℕ, zero, suc, _+_, _-_, _≤_, _<_}
-use mathlib.Core.Path.{_≡_, refl, sym, ap, ap₂, _∙_}
-use mathlib.Core.Bool.{Bool, true, false, cond}
+use Prim.Native.Nat.{ℕ, suc, _+_, _-_, _≤_, _<_}
+use mathlib.Core.Path.{_≡_, refl, sym, ap, _∙_}
+use mathlib.Core.Bool.{Bool, true, false}
 use mathlib.Core.List.{List, [], _∷_, _++_, append-assoc, append-nil}
-use native.Mathlib.Numerals.{add-one}
 use native.Mathlib.Omega.{arith}
-use lib.Dec.{leb, ltb, eqb}
-use lib.ListN.{length, take, drop, length-append, length-take}
+use lib.Dec.{ltb, eqb}
+use lib.ListN.{length, take, length-append}
 use lib.Seq.{take-nil, take-all, take-append-le, length-take-le}
-use borrow.Author.Tests.{le-leb, lt-leb, lt-ltb, le-ltb, ltb-true, ltb-false, eqb-true}
-use Rattle.rules.specs.declared.calls.Line.{Line}
-use Rattle.rules.specs.declared.answers.Tally.{Tally}
-use Rattle.rules.specs.Limits.{mostBytes, mostLines}
+use borrow.Author.Tests.{lt-leb, le-ltb, ltb-true, ltb-false, eqb-true}
+use Rattle.rules.specs.Limits.{mostLines}
 use Rattle.rules.specs.Lists.{joined}
-use Rattle.rules.specs.State.{Book}
-use Rattle.rules.specs.Lines.{lineFeed, readFields, readLine}
-use Rattle.rules.specs.Transcript.{InputLine, lastLine, linesFrom, inputLines, readInput, answerLine, replyText, tallied, endText, played, transcript}
+use Rattle.rules.specs.Lines.{lineFeed, readLine}
+use Rattle.rules.specs.Transcript.{InputLine, lastLine, linesFrom, inputLines, readInput, replyText, endText, played, transcript}
 use Rattle.runner.specs.Machine.{Machine, start, stopped, held-with, outcomeFor, answered, holding, fed, written, feeds, writes, unfinished, unfinishedText, ended, closing, writesAll}
 
 -- ---- feeding in parts

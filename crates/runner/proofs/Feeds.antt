@@ -1,8 +1,8 @@
 -- One byte fed: what is held of a line, and the machine and the text after it; and bytes after bytes.
-use Prim.Native.Nat.{ℕ, zero, suc, _+_, _-_, _≤_, _<_}
-use mathlib.Core.Path.{_≡_, refl, sym, ap, _∙_}
+use Prim.Native.Nat.{ℕ, _+_, _-_, _≤_, _<_}
+use mathlib.Core.Path.{_≡_, refl}
 use mathlib.Core.Bool.{true}
-use mathlib.Core.List.{List, [], _∷_, _++_, append-nil}
+use mathlib.Core.List.{List, [], _∷_, append-nil}
 use native.Mathlib.Numerals.{add-one}
 use native.Mathlib.Omega.{arith}
 use lib.Dec.{leb}
@@ -12,8 +12,8 @@ use borrow.Author.Tests.{lt-ltb, le-ltb, eq-eqb, ne-eqb}
 use Rattle.rules.specs.declared.calls.Line.{Line}
 use Rattle.rules.specs.Lines.{readLine}
 use Rattle.rules.specs.Transcript.{replyText}
-use Rattle.replies.specs.Writing.{Page, page, put}
-use Rattle.replies.proofs.PageLaws.{put-then, put-nothing}
+use Rattle.pages.specs.Writing.{Page, page, put}
+use Rattle.pages.proofs.PageLaws.{put-then, put-nothing}
 use Rattle.runner.specs.declared.running.Running.{Running}
 use Rattle.runner.specs.Machine.{Machine, held-with, outcomeFor, answered, fed, written, feeds, writes}
 use Rattle.runner.specs.Running.{machineOf}

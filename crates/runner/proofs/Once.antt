@@ -7,9 +7,9 @@ use lib.ListN.{length, take}
 use lib.Seq.{length-take-le}
 use Rattle.rules.specs.declared.calls.Line.{Line}
 use Rattle.rules.specs.Transcript.{replyText}
-use Rattle.replies.specs.Writing.{Page, page, put}
-use Rattle.replies.proofs.Once.{put-once}
-use Rattle.replies.proofs.PageLaws.{upto, bytes}
+use Rattle.pages.specs.Writing.{Page, page, put}
+use Rattle.pages.proofs.Once.{put-once}
+use Rattle.pages.proofs.PageLaws.{upto, bytes}
 use Rattle.runner.specs.declared.running.Running.{Running}
 use Rattle.runner.specs.declared.feed.Feeding.{Feeding}
 use Rattle.runner.specs.Machine.{Machine, outcomeFor, answered, feeds, writes}

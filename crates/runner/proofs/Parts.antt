@@ -13,7 +13,7 @@ use Rattle.rules.specs.Lists.{all}
 use Rattle.rules.specs.declared.calls.Line.{Line}
 use Rattle.rules.specs.Lines.{lineFeed, readLine}
 use Rattle.rules.specs.Transcript.{replyText}
-use Rattle.replies.specs.Writing.{page, put}
+use Rattle.pages.specs.Writing.{page, put}
 use Rattle.runner.specs.declared.running.Running.{Running}
 use Rattle.runner.specs.declared.feed.Feeding.{Feeding}
 use Rattle.runner.specs.declared.feed.Fed.{Fed}

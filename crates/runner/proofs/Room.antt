@@ -1,13 +1,12 @@
 -- No reply is too long for the room that is kept for it, and where there is room a text is written whole.
-use Prim.Native.Nat.{ℕ, zero, suc, _+_, _*_, _/_, _%_, _-_, _≤_, _<_}
-use mathlib.Core.Path.{_≡_, refl, sym, ap, _∙_}
+use Prim.Native.Nat.{ℕ, zero, suc, _+_, _*_, _/_, _%_, _-_, _≤_}
+use mathlib.Core.Path.{_≡_, refl}
 use mathlib.Core.Bool.{Bool, true, false, cond}
-use mathlib.Core.List.{List, [], _∷_, _++_, append-nil, append-assoc}
+use mathlib.Core.List.{List, [], _∷_, _++_}
 use native.Mathlib.Omega.{arith}
 use lib.Dec.{leb, ltb, eqb}
-use lib.ListN.{length, take, set, length-append, length-set}
-use lib.Seq.{take-suc-set}
-use borrow.Author.Tests.{leb-true, lt-ltb}
+use lib.ListN.{length, take, length-append}
+use borrow.Author.Tests.{leb-true}
 use Rattle.rules.specs.declared.rows.Lot.{Lot}
 use Rattle.rules.specs.Lists.{joined, bytes}
 use Rattle.rules.specs.Lines.{lineFeed, tab, spelled, decimal, tabbed, readLine}
@@ -25,8 +24,8 @@ use Rattle.lots.proofs.TraceJoin.{records-fit}
 use Rattle.rules.specs.declared.answers.Tally.{Tally}
 use Rattle.rules.specs.Transcript.{pieceValues, replyText, answerLine, endText}
 use Rattle.runner.specs.Machine.{Machine, stopped, outcomeFor, written, unfinishedText, ended, closing}
-use Rattle.replies.specs.Writing.{page, put}
-use Rattle.replies.proofs.PageLaws.{put-whole}
+use Rattle.pages.specs.Writing.{page, put}
+use Rattle.pages.proofs.PageLaws.{put-whole}
 use Rattle.runner.specs.declared.feed.Feeding.{Feeding}
 use Rattle.runner.specs.Feeding.{fedMachine, Closes, EndsWith}
 use Rattle.runner.specs.Kept.{Closed}

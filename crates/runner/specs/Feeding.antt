@@ -9,7 +9,7 @@ use Rattle.runner.specs.declared.feed.Fed.{Fed}
 use mathlib.Core.List.{List, _++_}
 use lib.ListN.{length, getD, take}
 use Rattle.rules.specs.State.{deskOf, emptyState}
-use Rattle.replies.specs.Writing.{Page, put}
+use Rattle.pages.specs.Writing.{Page, put}
 use Rattle.runner.specs.declared.feed.Feeding.{Feeding}
 use Rattle.runner.specs.Machine.{Machine, closing}
 use Rattle.runner.specs.Running.{machineOf, Counted}

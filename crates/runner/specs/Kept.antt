@@ -7,8 +7,8 @@ use Rattle.rules.specs.Limits.{inboxRows, outboxRows, historyRows}
 use Rattle.rules.specs.Tables.{depositShape, paymentShape, recordShape}
 use Rattle.rules.specs.State.{Book, blank}
 use Rattle.rules.specs.Answer.{bookOf}
-use Rattle.replies.specs.Writing
-use Rattle.replies.specs.Writing.{Page, put}
+use Rattle.pages.specs.Writing
+use Rattle.pages.specs.Writing.{Page, put}
 use Rattle.runner.specs.declared.feed.Feeding.{Feeding}
 use Rattle.runner.specs.Machine.{Machine, feeds, writes}
 use Rattle.runner.specs.Feeding.{fedMachine, Ready, Moves, Closes, EndsWith, Begun}

@@ -1,13 +1,18 @@
 // The input line after line, however it is cut into reads.
 use crate::running::Running;
 use crate::running::answer_line;
+use frames::counts_of;
 use lines::read::read_line;
+use refusals::line_reply;
+use refusals::says_all;
 use replies::put_end;
 use replies::put_reply_line;
+use replies::reply_number;
 use rules::answers::Answer;
 use rules::answers::Refusal;
 use rules::answers::Tally;
 use rules::calls::Line;
+use rules::desk::Desk;
 use steps::tally::one_more;
 ghost use Prim.Native.Nat.{_+_, _-_, _≤_};
 ghost use lib.Dec.{leb};
@@ -18,10 +23,10 @@ ghost use Rattle.rules.specs.Lists.{all};
 ghost use Rattle.rules.specs.Lines.{readLine};
 ghost use Rattle.rules.specs.Replies.{told};
 ghost use Rattle.rules.specs.Transcript.{tallied};
-ghost use Rattle.replies.specs.Writing.{page, put, replyLine};
+ghost use Rattle.pages.specs.Writing.{page, put};
+ghost use Rattle.replies.specs.Writing.{replyLine};
 ghost use Rattle.runner.specs.Machine.{held-with, holds};
 ghost use Rattle.runner.specs.Feeding.{Ready, noFeed, NextFeed};
-ghost use Rattle.runner.specs.Running.{malformed};
 ghost use Rattle.runner.specs.Kept.{kept, RunSome, Closed};
 
 // What is kept between reads: what is kept between lines, how many bytes of a line are held, and the
@@ -157,22 +162,35 @@ pub fn run_some(
     let mut at = f.at;
     let mut k: usize = 0;
     while k < chunk.len() {
-        let run = Running { desk, tally, line };
         if !has_room(out.len(), at) {
-            return so_far(run, held, at, k);
+            return so_far(desk, tally, line, held, at, k);
         }
         if 100000 < line {
-            return so_far(run, held, at, chunk.len());
+            return so_far(desk, tally, line, held, at, chunk.len());
         }
         let rest = &chunk[k..];
         let n = feed_at(rest);
         if rest.len() <= n {
             held = hold_part(hold, held, rest);
-            return so_far(run, held, at, chunk.len());
+            return so_far(desk, tally, line, held, at, chunk.len());
         }
         let l = whole_line(hold, held, &rest[..n]);
-        if let Line::Malformed = l {
-            let w = answer_malformed(tally, line, out, at);
+        // What refuses the line is asked first, and the desk's lists are lent: where the number is all that
+        // the line comes to, the desk stays where it lies.
+        let counts = counts_of(desk);
+        let reply = line_reply(
+            &desk.balances,
+            &desk.holders,
+            &desk.lifetime,
+            &desk.settled,
+            counts,
+            inbox,
+            outbox,
+            history,
+            l,
+        );
+        if says_all(l, reply) {
+            let w = answer_said(tally, line, out, at, reply);
             tally = w.tally;
             line += 1;
             at = w.at;
@@ -180,6 +198,7 @@ pub fn run_some(
             k += n + 1;
             continue;
         }
+        let run = Running { desk, tally, line };
         let w = answer_line(run, inbox, outbox, history, out, at, l);
         let next = w.running;
         desk = next.desk;
@@ -189,14 +208,14 @@ pub fn run_some(
         held = 0;
         k += n + 1;
     }
-    let run = Running { desk, tally, line };
-    so_far(run, held, at, k)
+    so_far(desk, tally, line, held, at, k)
 }
 
 // What is kept so far, and how far it came.
-fn so_far(running: Running, held: usize, at: usize, next: usize) -> Fed
-    ensures { λ r. ⌜ r ≡ record { feeding = record { running = running; held = held; at = at }; next = next } ⌝ }
+fn so_far(desk: Desk, tally: Tally, line: u64, held: usize, at: usize, next: usize) -> Fed
+    ensures { λ r. ⌜ r ≡ record { feeding = record { running = record { desk = desk; tally = tally; line = line }; held = held; at = at }; next = next } ⌝ }
 {
+    let running = Running { desk, tally, line };
     let feeding = Feeding { running, held, at };
     Fed { feeding, next }
 }
@@ -211,24 +230,23 @@ fn has_room(len: usize, at: usize) -> bool
     45000 <= len - at
 }
 
-// The tally after a line that is Malformed, and the place up to which the output is written.
-struct Refused {
+// The tally after a line whose reply is all that it comes to, and the place up to which the output is
+// written.
+struct Said {
     tally: Tally,
     at: usize,
 }
 
-// 1 Malformed, on any book: the book is left as it was, so no desk is handed on.
-fn answer_malformed(tally: Tally, line: u64, out: &mut [u8], at: usize) -> Refused
+// The reply of a line that leaves the book as it was: so no desk is handed on.
+fn answer_said(tally: Tally, line: u64, out: &mut [u8], at: usize, a: Answer) -> Said
     requires { ⌜ tally .done ≤ 100000 ⌝ }
     requires { ⌜ tally .other ≤ 100000 ⌝ }
-    ensures { λ r. ⌜ r .tally ≡ tallied tally 1 ⌝ }
-    ensures { λ r. ⌜ page (now (out .exit)) (r .at) ≡ put (page (now (out .entry)) at) (replyLine line (told malformed)) ⌝ }
+    ensures { λ r. ⌜ r .tally ≡ tallied tally (told a .number) ⌝ }
+    ensures { λ r. ⌜ page (now (out .exit)) (r .at) ≡ put (page (now (out .entry)) at) (replyLine line (told a)) ⌝ }
 {
-    let why = Refusal::Malformed;
-    let answer = Answer::Refused(why);
-    let p = put_reply_line(out, at, line, answer);
-    let t = one_more(tally, 1);
-    Refused { tally: t, at: p }
+    let p = put_reply_line(out, at, line, a);
+    let t = one_more(tally, reply_number(a));
+    Said { tally: t, at: p }
 }
 
 // At the end of the input: "An unfinished last line is Malformed", and last comes `end`.
@@ -246,7 +264,9 @@ pub fn close(f: Feeding, hold: &[u8], out: &mut [u8]) -> usize
     if n == 0 {
         return put_end(out, f.at, t);
     }
-    let w = answer_malformed(t, run.line, out, f.at);
+    let why = Refusal::Malformed;
+    let answer = Answer::Refused(why);
+    let w = answer_said(t, run.line, out, f.at, answer);
     let told = w.tally;
     put_end(out, w.at, told)
 }

@@ -6,8 +6,10 @@ use steps::counted::tallied_step;
 ghost use Prim.Native.Nat.{_≤_};
 ghost use mathlib.Core.Path.{_≡_};
 ghost use mathlib.Core.List.{[]};
+ghost use Rattle.rules.specs.Answer.{bookOf};
 ghost use Rattle.rules.specs.Transcript.{replyText};
-ghost use Rattle.replies.specs.Writing.{page, put};
+ghost use Rattle.pages.specs.Writing.{page, put};
+ghost use Rattle.steps.specs.Step.{LineAccepted};
 ghost use Rattle.runner.specs.Machine.{outcomeFor, answered};
 ghost use Rattle.runner.specs.Running.{machineOf, Counted};
 
@@ -25,7 +27,8 @@ pub struct Written {
     pub at: usize,
 }
 
-// "For each line it writes line number and reply number", then the values and the pieces, if any.
+// "For each line it writes line number and reply number", then the values and the pieces, if any: of a line
+// whose call nothing refuses.
 pub fn answer_line(
     run: Running,
     inbox: &mut [u64],
@@ -37,6 +40,7 @@ pub fn answer_line(
 ) -> Written
     requires { ⌜ Counted run ⌝ }
     requires { ⌜ run .line ≤ 100000 ⌝ }
+    requires { ⌜ LineAccepted (bookOf (run .desk) (now inbox) (now outbox) (now history)) l ⌝ }
     ensures { λ r. ⌜ machineOf (r .running) (now (inbox .exit)) (now (outbox .exit)) (now (history .exit)) [] ≡ answered (machineOf run (now (inbox .entry)) (now (outbox .entry)) (now (history .entry)) []) (outcomeFor (machineOf run (now (inbox .entry)) (now (outbox .entry)) (now (history .entry)) []) l) ⌝ }
     ensures { λ r. ⌜ page (now (out .exit)) (r .at) ≡ put (page (now (out .entry)) at) (replyText (run .line) (outcomeFor (machineOf run (now (inbox .entry)) (now (outbox .entry)) (now (history .entry)) []) l)) ⌝ }
     ensures { λ r. ⌜ Counted (r .running) ⌝ }

@@ -1,4 +1,4 @@
--- The calls that write a trace's line, as steps of a walk, as in `Rattle.history.proofs.LotCalls`: the page of bytes is lent again for each (`Rattle.history.proofs.Again` holds of any element).
+-- The calls that write a trace's line, as steps of a walk, as in `Rattle.takings.proofs.LotCalls`: the page of bytes is lent again for each (`Rattle.takings.proofs.Again` holds of any element).
 --     puts-piece     `put_piece(out, at, l)`.        puts-answer     `put_answer(out, at, line, a)`.        ends-line     `put_line_feed(out, at)`
 -- Assumes `Given`.
 use mathlib.Core.Path.{_≡_, refl, sym, ap, subst}
@@ -31,7 +31,7 @@ use denote.Triple.Spec.{tripleOf}
 use denote.Triple.Statement.{Contract, Triple}
 use denote.Triple.Call.{calls-at}
 use denote.Triple.Clauses.{ensured, lasts}
-use Rattle.history.proofs.Again.{LentAgain, lends-again-n, comes-back-n}
+use Rattle.takings.proofs.Again.{LentAgain, lends-again-n, comes-back-n}
 use denote.RattleType.{RattleType}
 use Rattle.rules.specs.declared.rows.Lot.{Lot}
 use Rattle.rules.specs.declared.answers.Answer.{Answer}
@@ -42,8 +42,9 @@ use Rattle.rules.proofs.rows.Lot as T
 use Rattle.rules.proofs.rows.Lot.Laws as T′
 use Rattle.rules.proofs.answers.Answer as An
 use Rattle.rules.proofs.answers.Answer.Laws as An′
-use Rattle.history.proofs.Values.{R, machOf, Answers, machA, at-list, sv}
-use Rattle.replies.specs.Writing.{page, put, replyStart}
+use Rattle.takings.proofs.Values.{R, machOf, Answers, machA, at-list, sv}
+use Rattle.pages.specs.Writing.{page, put}
+use Rattle.replies.specs.Writing.{replyStart}
 use Rattle.steps.specs.declared.step.Stepped.{Stepped}
 use Rattle.steps.proofs.step.Stepped as St
 use Rattle.steps.proofs.step.Stepped.Laws as St′
@@ -51,8 +52,8 @@ use Rattle.replies.proofs.put_piece as put-piece
 use Rattle.replies.proofs.put_piece.Symbol.{name as #put-piece}
 use Rattle.replies.proofs.put_answer as put-answer
 use Rattle.replies.proofs.put_answer.Symbol.{name as #put-answer}
-use Rattle.replies.proofs.put_line_feed as put-line-feed
-use Rattle.replies.proofs.put_line_feed.Symbol.{name as #put-line-feed}
+use Rattle.pages.proofs.put_line_feed as put-line-feed
+use Rattle.pages.proofs.put_line_feed.Symbol.{name as #put-line-feed}
 
 -- ---- what a step leaves, as the machine has it
 abbrev pub Steps : RattleType

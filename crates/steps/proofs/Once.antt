@@ -9,8 +9,8 @@ use Rattle.rules.specs.State.{Book}
 use Rattle.rules.specs.Answer.{answer}
 use Rattle.rules.specs.Transcript.{answerLine, tallied}
 use Rattle.rules.proofs.Told.{once}
-use Rattle.replies.specs.Writing.{Page}
-use Rattle.replies.proofs.PageLaws.{upto, bytes}
+use Rattle.pages.specs.Writing.{Page}
+use Rattle.pages.proofs.PageLaws.{upto, bytes}
 use Rattle.steps.specs.declared.step.Stepped.{Stepped}
 use Rattle.steps.specs.Step.{Replied, repliedOf, replied}
 

@@ -1,5 +1,5 @@
 -- The line of an answer, piece by piece, and the tally that it raises.
-use Prim.Native.Nat.{ℕ, zero, suc, _+_, _≤_, _<_}
+use Prim.Native.Nat.{ℕ, _+_, _≤_, _<_}
 use mathlib.Core.Path.{_≡_, refl, sym, ap, subst, _∙_}
 use mathlib.Core.Bool.{Bool, true, false, not, _&&_}
 use lib.Dec.{T as Holds, ltb, nltb→le}
@@ -11,17 +11,17 @@ use lib.Seq.{take-all, take-suc}
 use native.Mathlib.Numerals.{add-one}
 use Rattle.rules.specs.declared.rows.Lot.{Lot}
 use Rattle.rules.specs.declared.answers.Answer.{Answer}
-use Rattle.rules.specs.declared.calls.Line.{Line}
 use Rattle.rules.specs.declared.answers.Tally.{Tally}
 use Rattle.rules.specs.Lists.{joined}
 use Rattle.rules.specs.Lots.{noLot}
 use Rattle.rules.specs.Lines.{lineFeed, tabbed}
 use Rattle.rules.specs.Replies.{told}
-use Rattle.rules.specs.Transcript.{pieceValues, replyText, tallied}
+use Rattle.rules.specs.Transcript.{pieceValues, tallied}
 use Rattle.rules.proofs.Accepts.{not-done}
-use Rattle.replies.specs.Writing.{Page, page, put, replyStart}
-use Rattle.replies.proofs.PageLaws.{put-then, put-pieces, put-nothing}
-use Rattle.steps.specs.declared.step.Stepped.{Stepped}
+use Rattle.pages.specs.Writing.{Page, put}
+use Rattle.replies.specs.Writing.{replyStart}
+use Rattle.pages.proofs.PageLaws.{put-then, put-nothing}
+use Rattle.replies.proofs.ReplyLaws.{put-pieces}
 use Rattle.steps.specs.Step.{handed, handedCount, answerText}
 
 -- ---- the pieces, one after the other

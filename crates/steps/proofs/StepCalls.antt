@@ -40,9 +40,9 @@ use Rattle.rules.proofs.calls.Line as Ln
 use Rattle.rules.proofs.calls.Line.Laws as Ln′
 use Rattle.rules.proofs.desk.Desk as Dk
 use Rattle.rules.proofs.desk.Desk.Laws as Dk′
-use Rattle.replies.specs.Writing.{page}
+use Rattle.pages.specs.Writing.{page}
 use Rattle.steps.specs.declared.step.Stepped.{Stepped}
-use Rattle.steps.specs.Step.{repliedOf, replied}
+use Rattle.steps.specs.Step.{repliedOf, replied, LineAccepted}
 use Rattle.steps.proofs.step.Stepped as Sp
 use Rattle.steps.proofs.step.Stepped.Laws as Sp′
 use Rattle.steps.proofs.Values.{Desks, machK, Lines, machL, Results, machS, Loan, lent, sv, pv, slice, tally, token, last-slice, last-tally}
@@ -61,16 +61,17 @@ to-steps-line 𝓤 H A mem run inb outb hist out dk at line l = (((inb .κ, (out
 
 module _ {M : Type 1} {𝓤 : URA M} {H : Heap 𝓤} {A : Atoms 𝓤} {K : Type 0} {W : Given 𝓤 H A} {Γ : List (Item 𝓤)} {E : Env 𝓤 H} {p : Post 𝓤 H} {d : Place} {xs : List Operand} {rest : Body} where
   pub steps-line : K → (inb outb hist out : Loan (List ℕ)) (dk : Desk) (at line : ℕ) (l : Line) (mem : Memory → SProp 𝓤) (run : Routine → Fun 𝓤) (𝓣 : Tables 𝓤 H) → Triple 𝓤 (𝓣 .C #line-step) (LineStep 𝓤 H A mem run)
-      → Is Desks dk (machK dk ∷ []) → at < 2 ^ 64 → line < 2 ^ 64 → Is Lines l (machL l ∷ [])
+      → Is Desks dk (machK dk ∷ []) → at < 2 ^ 64 → line < 2 ^ 64 → Is Lines l (machL l ∷ []) → LineAccepted (bookOf dk (inb .now) (outb .now) (hist .now)) l
       → Opds K W (raw (LineStep 𝓤 H A mem run .pre (to-steps-line 𝓤 H A mem run inb outb hist out dk at line l)) ∷ Γ) E xs (machK dk ∷ sv inb ∷ sv outb ∷ sv hist ∷ sv out ∷ vint w64 at ∷ vint w64 line ∷ machL l ∷ [])
       → ((r : Stepped) (inb′ outb′ hist′ out′ : List ℕ) → length inb′ ≡ length (inb .now) → length outb′ ≡ length (outb .now) → length hist′ ≡ length (hist .now) → length out′ ≡ length (out .now) → repliedOf r inb′ outb′ hist′ out′ ≡ replied line (page (out .now) at) (answerLine (bookOf dk (inb .now) (outb .now) (hist .now)) l) → Is Results r (machS r ∷ [])
       → Seq K W (last-slice w64 inb inb′ ∷ token inb ∷ last-slice w64 outb outb′ ∷ token outb ∷ last-slice w64 hist hist′ ∷ token hist ∷ last-slice w8 out out′ ∷ token out ∷ Γ) (lands (𝓣 .C) (𝓣 .Λ) E d (machS r) rest p))
       → Seq K W (slice w64 inb ∷ token inb ∷ slice w64 outb ∷ token outb ∷ slice w64 hist ∷ token hist ∷ slice w8 out ∷ token out ∷ Γ) (runs (𝓣 .C) (𝓣 .Λ) E (seq (call #line-step xs d) rest) p)
-  steps-line t inb outb hist out dk at line l mem run 𝓣 known isdk isat isline isl os k =
+  steps-line t inb outb hist out dk at line l mem run 𝓣 known isdk isat isline isl acc os k =
       nothing t $ owned t Lines (Is Lines) ((LE.makes Ln.the-type Ln′.the-plain) 𝓤 H A) l _ isl $ fjoin t $ owned t u64 (Is u64) (uint-makes 𝓤 H A W w64) line _ (refl, isline) $ fjoin t $
       owned t usize (Is usize) (uint-makes 𝓤 H A W w64) at _ (refl, isat) $ fjoin t $ move t (7 ∷ 0 ∷ []) $ fjoin t $ move t (5 ∷ 0 ∷ []) $ fjoin t $ move t (3 ∷ 0 ∷ []) $ fjoin t $
       move t (1 ∷ 0 ∷ []) $ fjoin t $ owned t Desks (Is Desks) ((LL.makes Dk.the-type Dk′.the-plain) 𝓤 H A) dk _ isdk $ fjoin t $ nothing t $ move t (5 ∷ 0 ∷ []) $ join t $
-      move t (4 ∷ 0 ∷ []) $ join t $ move t (3 ∷ 0 ∷ []) $ join t $ move t (2 ∷ 0 ∷ []) $ join t $ join t $ nothing t $ move t (1 ∷ 0 ∷ []) $ join t $
+      move t (4 ∷ 0 ∷ []) $ join t $ move t (3 ∷ 0 ∷ []) $ join t $ move t (2 ∷ 0 ∷ []) $ join t $ join t $
+      use0 W (raw (fact 𝓤 (LineAccepted (bookOf dk (inb .now) (outb .now) (hist .now)) l))) (factI 𝓤 (LineAccepted (bookOf dk (inb .now) (outb .now) (hist .now)) l) (emp 𝓤) acc) $ move t (1 ∷ 0 ∷ []) $ join t $
       use1 W (raw (LineStep 𝓤 H A mem run .pre (to-steps-line 𝓤 H A mem run inb outb hist out dk at line l))) (id⊢ 𝓤 _) $
       calls-at t (fmOf 𝓤 H (W .laws) 𝓣) (LineStep 𝓤 H A mem run) known (to-steps-line 𝓤 H A mem run inb outb hist out dk at line l) os (λ w.
       use1 W (later (some (λ (r : Stepped). ((token inb ⊛ (token outb ⊛ (token hist ⊛ (token out ⊛ (‵ ftrue))))) ⊛ ‵ (Results .own r (w ∷ []))) ⊛ raw (ensured 𝓤 H A line-step.ended (line-step.clauses 𝓤 H A mem run) (inb .κ, (outb .κ, (hist .κ, (out .κ, tt)))) (dk, (lent inb, (lent outb, (lent hist, (lent out, (at, (line, (l, tt)))))))) tt r)))) (id⊢ 𝓤 _) $ await t tt $ pick t (λ r. split t $ move t (1 ∷ []) $
@@ -114,18 +115,18 @@ to-steps-counted 𝓤 H A mem run inb outb hist out tal dk at line l = (((inb .�
 
 module _ {M : Type 1} {𝓤 : URA M} {H : Heap 𝓤} {A : Atoms 𝓤} {K : Type 0} {W : Given 𝓤 H A} {Γ : List (Item 𝓤)} {E : Env 𝓤 H} {p : Post 𝓤 H} {d : Place} {xs : List Operand} {rest : Body} where
   pub steps-counted : K → (inb outb hist out : Loan (List ℕ)) (tal : Loan Tally) (dk : Desk) (at line : ℕ) (l : Line) (mem : Memory → SProp 𝓤) (run : Routine → Fun 𝓤) (𝓣 : Tables 𝓤 H) → Triple 𝓤 (𝓣 .C #counted-step) (CountedStep 𝓤 H A mem run)
-      → tal .now .done ≤ 100000 → tal .now .other ≤ 100000 → Is Desks dk (machK dk ∷ []) → at < 2 ^ 64 → line < 2 ^ 64 → Is Lines l (machL l ∷ [])
+      → tal .now .done ≤ 100000 → tal .now .other ≤ 100000 → Is Desks dk (machK dk ∷ []) → at < 2 ^ 64 → line < 2 ^ 64 → Is Lines l (machL l ∷ []) → LineAccepted (bookOf dk (inb .now) (outb .now) (hist .now)) l
       → Opds K W (raw (CountedStep 𝓤 H A mem run .pre (to-steps-counted 𝓤 H A mem run inb outb hist out tal dk at line l)) ∷ Γ) E xs (machK dk ∷ sv inb ∷ sv outb ∷ sv hist ∷ sv out ∷ vint w64 at ∷ vint w64 line ∷ pv tal ∷ machL l ∷ [])
       → ((r : Stepped) (inb′ outb′ hist′ out′ : List ℕ) (t : Tally) → length inb′ ≡ length (inb .now) → length outb′ ≡ length (outb .now) → length hist′ ≡ length (hist .now) → length out′ ≡ length (out .now) → repliedOf r inb′ outb′ hist′ out′ ≡ replied line (page (out .now) at) (answerLine (bookOf dk (inb .now) (outb .now) (hist .now)) l) → t ≡ tallied (tal .now) (r .number) → Is Results r (machS r ∷ [])
       → Seq K W (last-slice w64 inb inb′ ∷ token inb ∷ last-slice w64 outb outb′ ∷ token outb ∷ last-slice w64 hist hist′ ∷ token hist ∷ last-slice w8 out out′ ∷ token out ∷ last-tally tal t ∷ token tal ∷ Γ) (lands (𝓣 .C) (𝓣 .Λ) E d (machS r) rest p))
       → Seq K W (slice w64 inb ∷ token inb ∷ slice w64 outb ∷ token outb ∷ slice w64 hist ∷ token hist ∷ slice w8 out ∷ token out ∷ tally tal ∷ token tal ∷ Γ) (runs (𝓣 .C) (𝓣 .Λ) E (seq (call #counted-step xs d) rest) p)
-  steps-counted t inb outb hist out tal dk at line l mem run 𝓣 known few few′ isdk isat isline isl os k =
+  steps-counted t inb outb hist out tal dk at line l mem run 𝓣 known few few′ isdk isat isline isl acc os k =
       nothing t $ owned t Lines (Is Lines) ((LE.makes Ln.the-type Ln′.the-plain) 𝓤 H A) l _ isl $ fjoin t $ move t (9 ∷ 0 ∷ []) $ fjoin t $
       owned t u64 (Is u64) (uint-makes 𝓤 H A W w64) line _ (refl, isline) $ fjoin t $ owned t usize (Is usize) (uint-makes 𝓤 H A W w64) at _ (refl, isat) $ fjoin t $ move t (7 ∷ 0 ∷ []) $
       fjoin t $ move t (5 ∷ 0 ∷ []) $ fjoin t $ move t (3 ∷ 0 ∷ []) $ fjoin t $ move t (1 ∷ 0 ∷ []) $ fjoin t $
       owned t Desks (Is Desks) ((LL.makes Dk.the-type Dk′.the-plain) 𝓤 H A) dk _ isdk $ fjoin t $ nothing t $ move t (6 ∷ 0 ∷ []) $ join t $ move t (5 ∷ 0 ∷ []) $ join t $
       move t (4 ∷ 0 ∷ []) $ join t $ move t (3 ∷ 0 ∷ []) $ join t $ move t (2 ∷ 0 ∷ []) $ join t $ join t $
-      use0 W (raw (fact 𝓤 (tal .now .other ≤ 100000))) (factI 𝓤 (tal .now .other ≤ 100000) (emp 𝓤) few′) $ use0 W (raw (fact 𝓤 (tal .now .done ≤ 100000))) (factI 𝓤 (tal .now .done ≤ 100000) (emp 𝓤) few) $ join t $ move t (1 ∷ 0 ∷ []) $ join t $
+      use0 W (raw (fact 𝓤 (LineAccepted (bookOf dk (inb .now) (outb .now) (hist .now)) l))) (factI 𝓤 (LineAccepted (bookOf dk (inb .now) (outb .now) (hist .now)) l) (emp 𝓤) acc) $ use0 W (raw (fact 𝓤 (tal .now .other ≤ 100000))) (factI 𝓤 (tal .now .other ≤ 100000) (emp 𝓤) few′) $ join t $ use0 W (raw (fact 𝓤 (tal .now .done ≤ 100000))) (factI 𝓤 (tal .now .done ≤ 100000) (emp 𝓤) few) $ join t $ move t (1 ∷ 0 ∷ []) $ join t $
       use1 W (raw (CountedStep 𝓤 H A mem run .pre (to-steps-counted 𝓤 H A mem run inb outb hist out tal dk at line l))) (id⊢ 𝓤 _) $
       calls-at t (fmOf 𝓤 H (W .laws) 𝓣) (CountedStep 𝓤 H A mem run) known (to-steps-counted 𝓤 H A mem run inb outb hist out tal dk at line l) os (λ w.
       use1 W (later (some (λ (r : Stepped). ((token inb ⊛ (token outb ⊛ (token hist ⊛ (token out ⊛ (token tal ⊛ (‵ ftrue)))))) ⊛ ‵ (Results .own r (w ∷ []))) ⊛ raw (ensured 𝓤 H A counted-step.ended (counted-step.clauses 𝓤 H A mem run) (inb .κ, (outb .κ, (hist .κ, (out .κ, (tal .κ, tt))))) (dk, (lent inb, (lent outb, (lent hist, (lent out, (at, (line, (lent tal, (l, tt))))))))) tt r)))) (id⊢ 𝓤 _) $ await t tt $ pick t (λ r. split t $ move t (1 ∷ []) $

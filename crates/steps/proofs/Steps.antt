@@ -22,9 +22,10 @@ use Rattle.rules.proofs.Accepts.{accepted-frame}
 use Rattle.desk.proofs.Books.{Framed, framed, inbox-kept, outbox-kept, history-kept, inbox-count, outbox-count, flight-count, history-count}
 use Rattle.history.specs.Tracing.{traceOutcomeOf}
 use Rattle.lots.proofs.TraceJoin.{Enough, trace-reply, trace-pieces}
-use Rattle.replies.specs.Writing.{Page, page, put, replyLine}
+use Rattle.pages.specs.Writing.{Page, page, put}
+use Rattle.replies.specs.Writing.{replyLine}
 use Rattle.rules.specs.Transcript.{replyText}
-use Rattle.replies.proofs.PageLaws.{reply-line, reply-text}
+use Rattle.replies.proofs.ReplyLaws.{reply-line, reply-text}
 use Rattle.steps.specs.declared.step.Stepped.{Stepped}
 use Rattle.steps.specs.Step.{Replied, HasTables, handed, answerText, repliedOf, replied}
 

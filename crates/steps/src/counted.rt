@@ -9,8 +9,8 @@ ghost use Prim.Native.Nat.{_≤_};
 ghost use mathlib.Core.Path.{_≡_};
 ghost use Rattle.rules.specs.Answer.{bookOf};
 ghost use Rattle.rules.specs.Transcript.{answerLine, tallied};
-ghost use Rattle.replies.specs.Writing.{page};
-ghost use Rattle.steps.specs.Step.{repliedOf, replied};
+ghost use Rattle.pages.specs.Writing.{page};
+ghost use Rattle.steps.specs.Step.{repliedOf, replied, LineAccepted};
 
 // "One tally, handed to each step and updated there": raised once, by the number of the step's reply.
 pub fn counted_step(
@@ -26,6 +26,7 @@ pub fn counted_step(
 ) -> Stepped
     requires { ⌜ now tally .done ≤ 100000 ⌝ }
     requires { ⌜ now tally .other ≤ 100000 ⌝ }
+    requires { ⌜ LineAccepted (bookOf d (now inbox) (now outbox) (now history)) l ⌝ }
     ensures { λ r. ⌜ repliedOf r (now (inbox .exit)) (now (outbox .exit)) (now (history .exit)) (now (out .exit)) ≡ replied line (page (now (out .entry)) at) (answerLine (bookOf d (now (inbox .entry)) (now (outbox .entry)) (now (history .entry))) l) ⌝ }
     ensures { λ r. ⌜ now (tally .exit) ≡ tallied (now (tally .entry)) (r .number) ⌝ }
 {
@@ -54,6 +55,7 @@ pub fn tallied_step(
 ) -> Tallied
     requires { ⌜ tally .done ≤ 100000 ⌝ }
     requires { ⌜ tally .other ≤ 100000 ⌝ }
+    requires { ⌜ LineAccepted (bookOf d (now inbox) (now outbox) (now history)) l ⌝ }
     ensures { λ r. ⌜ repliedOf (r .stepped) (now (inbox .exit)) (now (outbox .exit)) (now (history .exit)) (now (out .exit)) ≡ replied line (page (now (out .entry)) at) (answerLine (bookOf d (now (inbox .entry)) (now (outbox .entry)) (now (history .entry))) l) ⌝ }
     ensures { λ r. ⌜ r .tally ≡ tallied tally (r .stepped .number) ⌝ }
 {

@@ -9,11 +9,13 @@ use rules::calls::Call;
 use rules::calls::Line;
 use rules::desk::Desk;
 ghost use mathlib.Core.Path.{_≡_};
+ghost use Rattle.rules.specs.Facts.{Accepted};
 ghost use Rattle.rules.specs.Replies.{told};
 ghost use Rattle.rules.specs.Answer.{bookOf, answer};
 ghost use Rattle.rules.specs.Transcript.{answerLine};
-ghost use Rattle.replies.specs.Writing.{page, put, replyLine};
-ghost use Rattle.steps.specs.Step.{repliedOf, replied};
+ghost use Rattle.pages.specs.Writing.{page, put};
+ghost use Rattle.replies.specs.Writing.{replyLine};
+ghost use Rattle.steps.specs.Step.{repliedOf, replied, LineAccepted};
 
 // What a step leaves beside the lent tables: the reply's number, the desk, and the place up to which the
 // output is written.
@@ -23,7 +25,8 @@ pub struct Stepped {
     pub at: usize,
 }
 
-// What a line gets: the call that it reads as is answered; 1 Malformed leaves the book as it was.
+// What a line gets whose call nothing refuses: the call that it reads as is answered; 1 Malformed leaves the
+// book as it was.
 pub fn line_step(
     d: Desk,
     inbox: &mut [u64],
@@ -34,6 +37,7 @@ pub fn line_step(
     line: u64,
     l: Line,
 ) -> Stepped
+    requires { ⌜ LineAccepted (bookOf d (now inbox) (now outbox) (now history)) l ⌝ }
     ensures { λ r. ⌜ repliedOf r (now (inbox .exit)) (now (outbox .exit)) (now (history .exit)) (now (out .exit)) ≡ replied line (page (now (out .entry)) at) (answerLine (bookOf d (now (inbox .entry)) (now (outbox .entry)) (now (history .entry))) l) ⌝ }
 {
     match l {
@@ -46,7 +50,8 @@ pub fn line_step(
     }
 }
 
-// "A read line is one of nine calls": each is answered by its own function.
+// "A read line is one of nine calls": each is done by its own function. It was asked before whether anything
+// refuses it; only a trace and a sign, which are done by the whole call, are tested again.
 pub fn step(
     d: Desk,
     inbox: &mut [u64],
@@ -57,35 +62,36 @@ pub fn step(
     line: u64,
     c: Call,
 ) -> Stepped
+    requires { ⌜ Accepted (bookOf d (now inbox) (now outbox) (now history)) c ⌝ }
     ensures { λ r. ⌜ repliedOf r (now (inbox .exit)) (now (outbox .exit)) (now (history .exit)) (now (out .exit)) ≡ replied line (page (now (out .entry)) at) (answer (bookOf d (now (inbox .entry)) (now (outbox .entry)) (now (history .entry))) c) ⌝ }
 {
     match c {
         Call::Deposit(x) => {
-            let a = inbox::deposit(d, inbox, outbox, history, x);
+            let a = inbox::deposit_done(d, inbox, outbox, history, x);
             put_answered(out, at, line, a)
         }
         Call::Claim(x) => {
-            let a = inbox::claim(d, inbox, outbox, history, x);
+            let a = inbox::claim_done(d, inbox, outbox, history, x);
             put_answered(out, at, line, a)
         }
         Call::Transfer(x) => {
-            let a = ledger::transfer(d, inbox, outbox, history, x);
+            let a = ledger::transfer_done(d, inbox, outbox, history, x);
             put_answered(out, at, line, a)
         }
         Call::Withdraw(x) => {
-            let a = outbox::withdraw(d, inbox, outbox, history, x);
+            let a = outbox::withdraw_done(d, inbox, outbox, history, x);
             put_answered(out, at, line, a)
         }
         Call::Send => {
-            let a = outbox::send(d, inbox, outbox, history);
+            let a = outbox::send_done(d, inbox, outbox, history);
             put_answered(out, at, line, a)
         }
         Call::Settle(n) => {
-            let a = outbox::settle(d, inbox, outbox, history, n);
+            let a = outbox::settle_done(d, inbox, outbox, history, n);
             put_answered(out, at, line, a)
         }
         Call::Grant(x) => {
-            let a = ledger::grant(d, inbox, outbox, history, x);
+            let a = ledger::grant_done(d, inbox, outbox, history, x);
             put_answered(out, at, line, a)
         }
         Call::Sign(x) => {

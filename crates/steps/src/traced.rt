@@ -1,7 +1,7 @@
 // A trace: answered, and its reply's line written with the pieces.
 use crate::step::Stepped;
+use pages::put_line_feed;
 use replies::put_answer;
-use replies::put_line_feed;
 use replies::put_piece;
 use replies::reply_number;
 use rules::answers::Answer;
@@ -17,7 +17,7 @@ ghost use Rattle.rules.specs.Lists.{joined};
 ghost use Rattle.rules.specs.Lines.{tabbed};
 ghost use Rattle.rules.specs.Answer.{bookOf, answer};
 ghost use Rattle.rules.specs.Transcript.{pieceValues};
-ghost use Rattle.replies.specs.Writing.{page, put};
+ghost use Rattle.pages.specs.Writing.{page, put};
 ghost use Rattle.steps.specs.Step.{repliedOf, replied, handedCount, answerText, steppedOf, HasTables};
 
 // A trace works in a table of lots that is lent for it, hands out its pieces in another, and leaves the book
@@ -173,7 +173,7 @@ fn put_pieces(out: &mut [u8], at: usize, pieces: &[Lot], n: usize) -> usize
     let mut p = at;
     let mut i: usize = 0;
     while (i < n) & (i < pieces.len()) {
-        let l = history::rows::lot_at(pieces, i);
+        let l = takings::rows::lot_at(pieces, i);
         p = put_piece(out, p, l);
         i += 1;
     }

@@ -1,14 +1,14 @@
 -- The loops that write a table, in closed form: what has been written after so many turns, one turn more, and the end.
-use Prim.Native.Nat.{ℕ, zero, suc, _+_, _-_, _*_, _/_, _≤_, _<_, zero-le}
+use Prim.Native.Nat.{ℕ, suc, _+_, _-_, _*_, _/_, _≤_, _<_, zero-le}
 use mathlib.Core.Path.{_≡_, refl, sym, ap, subst, _∙_}
 use mathlib.Core.Bool.{Bool, true, false, _&&_, and-false}
 use mathlib.Core.List.{List, [], _∷_, _++_, append-assoc, append-nil}
 use native.Mathlib.Numerals.{add-one}
 use native.Mathlib.Nat.{suc-mul, zero-add, sub-zero, zero-mul, mul-zero, one-mul, add-mul, le-div-iff-mul-le, lt-of-not-le, not-le-of-lt}
 use native.Mathlib.Omega.{arith}
-use lib.Dec.{leb, ltb, eqb}
-use lib.ListN.{length, getD, take, drop, set, replicate, length-append, length-drop, length-set, length-replicate, length-take, drop-of-length-le}
-use lib.Seq.{paste, paste-zero, paste-suc, length-paste, length-paste-head, take-paste, drop-paste, take-length, drop-cons, getD-append-add, getD-drop, drop-drop, take-append-le, take-take, take-all, length-take-le, take-add}
+use lib.Dec.{leb, eqb}
+use lib.ListN.{length, getD, take, drop, set, replicate, length-drop, length-replicate, length-take, drop-of-length-le}
+use lib.Seq.{paste, paste-zero, paste-suc, length-paste, length-paste-head, take-paste, drop-paste, take-length, drop-cons, getD-append-add, getD-drop, drop-drop, take-all}
 use borrow.Author.Tests.{le-leb, lt-leb, lt-ltb, le-ltb, leb-true, leb-false}
 use borrow.Rule.Slice.PartMut.{midOf, putMid}
 use Rattle.rules.specs.Lists.{same}

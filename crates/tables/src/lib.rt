@@ -2,12 +2,12 @@
 // serve every table. No public function has a `requires`: where the rows do not lie within the table, it is
 // left as it was.
 ghost use mathlib.Core.Path.{_≡_};
-ghost use Prim.Native.Nat.{_+_, _-_, _*_, _≤_, _<_};
+ghost use Prim.Native.Nat.{_*_, _≤_, _<_};
 ghost use lib.Dec.{leb};
 ghost use lib.ListN.{length, take, replicate};
 ghost use Rattle.rules.specs.Lists.{same};
 ghost use Rattle.rules.specs.Tables.{splice, withoutRow};
-ghost use Rattle.tables.specs.Rows.{lieWithin, putAt, takenOut, placeOf};
+ghost use Rattle.tables.specs.Rows.{putAt, takenOut, placeOf};
 
 // Writes the row's numbers into the table from place `at` on. With `at` past the used rows this adds
 // a row; with `at` at a used row it changes that row.

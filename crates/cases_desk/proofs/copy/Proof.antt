@@ -1,12 +1,9 @@
 use Prim.Native.Nat.{_-_, _≤_}
-use mathlib.Core.Path.{_≡_, _∙_}
+use mathlib.Core.Path.{_≡_}
 use lib.ListN.{length}
 use borrow.Author.Needs.{needs}
 use Rattle.cases_desk.proofs.copy.Statement.{statement}
 use Rattle.cases_desk.proofs.copy.Tie as tie
-use Rattle.cases_desk.proofs.copy.Reads as reads
-use Rattle.cases_desk.proofs.copy.Lts as lts
-use Rattle.cases_desk.proofs.copy_one.Reads as copy-one-reads
 
 abbrev Inv-loop : tie.InvT-loop
 Inv-loop from at to₀ k₀ to k = (k ≤ length to) × (length to ≡ length to₀)
@@ -14,31 +11,24 @@ Inv-loop from at to₀ k₀ to k = (k ≤ length to) × (length to ≡ length to
 abbrev μ-loop : tie.MeasureT-loop
 μ-loop from at to₀ k₀ to k = length to₀ - k
 
--- src/main.rt:185:5
 loop-holds : tie.Need-loop-holds Inv-loop μ-loop
 loop-holds c = search needs
 
--- src/main.rt:186:9
 copy-one-requires : tie.Need-copy-one-requires Inv-loop μ-loop
 copy-one-requires c κs = search needs
 
--- src/main.rt:187:9
 add-k : tie.Need-add-k Inv-loop μ-loop
 add-k c = search needs
 
--- src/main.rt:185:5
 loop-less : tie.Need-loop-less Inv-loop μ-loop
 loop-less c = search needs
 
--- src/main.rt:185:5
 loop-again : tie.Need-loop-again Inv-loop μ-loop
 loop-again c = search needs
 
--- src/main.rt:183:1
 same-length : tie.Need-same-length Inv-loop μ-loop
 same-length c = search needs
 
--- src/main.rt:183:1
 returns : tie.Need-returns Inv-loop μ-loop
 returns c = search needs
 

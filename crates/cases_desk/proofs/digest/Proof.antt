@@ -3,8 +3,6 @@ use lib.ListN.{length}
 use borrow.Author.Needs.{needs}
 use Rattle.cases_desk.proofs.digest.Statement.{statement}
 use Rattle.cases_desk.proofs.digest.Tie as tie
-use Rattle.cases_desk.proofs.digest.Reads as reads
-use Rattle.cases_desk.proofs.digest.Lts as lts
 
 abbrev Inv-loop : tie.InvT-loop
 Inv-loop so_far t sum₀ k₀ sum k = (k ≤ length t) × (sum < 1000003)
@@ -12,39 +10,30 @@ Inv-loop so_far t sum₀ k₀ sum k = (k ≤ length t) × (sum < 1000003)
 abbrev μ-loop : tie.MeasureT-loop
 μ-loop so_far t sum₀ k₀ sum k = length t - k
 
--- src/main.rt:194:5
 loop-holds : tie.Need-loop-holds Inv-loop μ-loop
 loop-holds c = search needs
 
--- src/main.rt:195:16
 mul-sum : tie.Need-mul-sum Inv-loop μ-loop
 mul-sum c = search needs
 
--- src/main.rt:195:27
 mul-sum-2 : tie.Need-mul-sum-2 Inv-loop μ-loop
 mul-sum-2 c = search needs
 
--- src/main.rt:195:27
 shared-slice-read-sum : tie.Need-shared-slice-read-sum Inv-loop μ-loop
 shared-slice-read-sum c = search needs
 
--- src/main.rt:195:16
 add-sum : tie.Need-add-sum Inv-loop μ-loop
 add-sum c = search needs
 
--- src/main.rt:196:9
 add-k : tie.Need-add-k Inv-loop μ-loop
 add-k c = search needs
 
--- src/main.rt:194:5
 loop-less : tie.Need-loop-less Inv-loop μ-loop
 loop-less c = search needs
 
--- src/main.rt:194:5
 loop-again : tie.Need-loop-again Inv-loop μ-loop
 loop-again c = search needs
 
--- src/main.rt:189:1
 returns : tie.Need-returns Inv-loop μ-loop
 returns c = search needs
 

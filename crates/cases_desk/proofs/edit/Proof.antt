@@ -1,12 +1,9 @@
 use Prim.Native.Nat.{_-_, _≤_}
-use mathlib.Core.Path.{_≡_, _∙_}
+use mathlib.Core.Path.{_≡_}
 use lib.ListN.{length}
 use borrow.Author.Needs.{needs}
 use Rattle.cases_desk.proofs.edit.Statement.{statement}
 use Rattle.cases_desk.proofs.edit.Tie as tie
-use Rattle.cases_desk.proofs.edit.Reads as reads
-use Rattle.cases_desk.proofs.edit.Lts as lts
-use Rattle.cases_desk.proofs.edit_one.Reads as edit-one-reads
 
 abbrev Inv-loop : tie.InvT-loop
 Inv-loop book table t₀ e₀ t e = (e ≤ 1024) × (length t ≡ length t₀)
@@ -14,31 +11,24 @@ Inv-loop book table t₀ e₀ t e = (e ≤ 1024) × (length t ≡ length t₀)
 abbrev μ-loop : tie.MeasureT-loop
 μ-loop book table t₀ e₀ t e = 1024 - e
 
--- src/main.rt:103:5
 loop-holds : tie.Need-loop-holds Inv-loop μ-loop
 loop-holds c = search needs
 
--- src/main.rt:104:9
 edit-one-requires : tie.Need-edit-one-requires Inv-loop μ-loop
 edit-one-requires c κs = search needs
 
--- src/main.rt:105:9
 add-e : tie.Need-add-e Inv-loop μ-loop
 add-e c = search needs
 
--- src/main.rt:103:5
 loop-less : tie.Need-loop-less Inv-loop μ-loop
 loop-less c = search needs
 
--- src/main.rt:103:5
 loop-again : tie.Need-loop-again Inv-loop μ-loop
 loop-again c = search needs
 
--- src/main.rt:101:1
 same-length : tie.Need-same-length Inv-loop μ-loop
 same-length c = search needs
 
--- src/main.rt:101:1
 returns : tie.Need-returns Inv-loop μ-loop
 returns c = search needs
 

@@ -4,105 +4,73 @@ use lib.Seq.{length-take-le, length-front}
 use borrow.Author.Needs.{needs}
 use Rattle.cases_desk.proofs.with_tables.Statement.{statement}
 use Rattle.cases_desk.proofs.with_tables.Tie as tie
-use Rattle.cases_desk.proofs.with_tables.Reads as reads
-use Rattle.cases_desk.proofs.with_tables.Lts as lts
-use Rattle.cases_desk.proofs.asked.Reads as asked-reads
-use Rattle.cases_desk.proofs.desk.Reads as desk-reads
-use Rattle.cases_desk.proofs.desk_digest.Reads as desk-digest-reads
-use Rattle.cases_desk.proofs.digest.Reads as digest-reads
-use Rattle.cases_desk.proofs.edit.Reads as edit-reads
-use Rattle.cases_desk.proofs.report.Reads as report-reads
-use Rattle.cases_desk.proofs.size.Reads as size-reads
 
--- src/main.rt:46:5
 edit-requires : tie.Need-edit-requires
 edit-requires c κs = search needs
 
--- src/main.rt:47:5
 edit-requires-2 : tie.Need-edit-requires-2
 edit-requires-2 c κs = search needs
 
--- src/main.rt:48:5
 edit-requires-3 : tie.Need-edit-requires-3
 edit-requires-3 c κs = search needs
 
--- src/main.rt:49:9
 size-requires : tie.Need-size-requires
 size-requires c κs = search needs
 
--- src/main.rt:50:9
 size-requires-2 : tie.Need-size-requires-2
 size-requires-2 c κs = search needs
 
--- src/main.rt:51:9
 size-requires-3 : tie.Need-size-requires-3
 size-requires-3 c κs = search needs
 
--- src/main.rt:52:9
 desk-requires : tie.Need-desk-requires
 desk-requires c κs = search needs
 
--- src/main.rt:55:9
 slice-relend-prefix-asked : tie.Need-slice-relend-prefix-asked
 slice-relend-prefix-asked c = search needs
 
--- src/main.rt:55:9
 slice-aggregate-asked : tie.Need-slice-aggregate-asked
 slice-aggregate-asked c = sym (length-take-le _ _ (c .before .before .before .before .before .before .size .ensures))
 
--- src/main.rt:56:9
 slice-relend-prefix-asked-2 : tie.Need-slice-relend-prefix-asked-2
 slice-relend-prefix-asked-2 c = search needs
 
--- src/main.rt:56:9
 slice-aggregate-asked-2 : tie.Need-slice-aggregate-asked-2
 slice-aggregate-asked-2 c = sym (length-take-le _ _ (c .before .before .before .before .before .size2 .ensures))
 
--- src/main.rt:57:9
 slice-relend-prefix-asked-3 : tie.Need-slice-relend-prefix-asked-3
 slice-relend-prefix-asked-3 c = search needs
 
--- src/main.rt:57:9
 slice-aggregate-asked-3 : tie.Need-slice-aggregate-asked-3
 slice-aggregate-asked-3 c = sym (length-take-le _ _ (c .before .before .before .before .size3 .ensures))
 
--- src/main.rt:53:9
 asked-requires : tie.Need-asked-requires
 asked-requires c κs = search needs
 
--- src/main.rt:61:36
 desk-digest-requires : tie.Need-desk-digest-requires
 desk-digest-requires c κs = search needs
 
--- src/main.rt:61:29
 digest-requires : tie.Need-digest-requires
 digest-requires c κs = search needs
 
--- src/main.rt:61:22
 digest-requires-2 : tie.Need-digest-requires-2
 digest-requires-2 c κs = search needs
 
--- src/main.rt:61:9
 digest-requires-3 : tie.Need-digest-requires-3
 digest-requires-3 c κs = search needs
 
--- src/main.rt:62:5
 report-requires : tie.Need-report-requires
 report-requires c κs = search needs
 
--- src/main.rt:45:1
 same-length : tie.Need-same-length
 same-length c = length-front {A = ℕ} (c .before .before .before .before .before .before .before .before .before .before .before .before .before .before .before .before .before .before .before .before .before .before .before .before .before .before .before .before .before .before .before .before .before .before .before .before .edit .last .1 .1 .0) (c .before .before .before .before .before .before .before .before .before .before .before .before .before .before .before .asked .last .1 .0) (c .before .before .before .before .before .before .before .before .before .before .before .before .before .before .before .before .before .before .before .before .before .before .before .before .size .result) (c .before .before .before .before .before .before .before .before .before .before .before .before .before .before .before .asked .kept .1 .0) ∙ c .before .before .before .before .before .before .before .before .before .before .before .before .before .before .before .before .before .before .before .before .before .before .before .before .before .before .before .before .before .before .before .before .before .before .before .before .edit .kept .1 .1 .0
 
--- src/main.rt:45:1
 same-length-2 : tie.Need-same-length-2
 same-length-2 c = length-front {A = ℕ} (c .before .before .before .before .before .before .before .before .before .before .before .before .before .before .before .before .before .before .before .before .before .before .before .before .before .before .before .before .before .before .before .before .edit2 .last .1 .1 .0) (c .before .before .before .before .before .before .before .before .before .before .before .before .before .before .before .asked .last .1 .1 .0) (c .before .before .before .before .before .before .before .before .before .before .before .before .before .before .before .before .before .before .before .before .before .before .size2 .result) (c .before .before .before .before .before .before .before .before .before .before .before .before .before .before .before .asked .kept .1 .1 .0) ∙ c .before .before .before .before .before .before .before .before .before .before .before .before .before .before .before .before .before .before .before .before .before .before .before .before .before .before .before .before .before .before .before .before .edit2 .kept .1 .1 .0
 
--- src/main.rt:45:1
 same-length-3 : tie.Need-same-length-3
 same-length-3 c = length-front {A = ℕ} (c .before .before .before .before .before .before .before .before .before .before .before .before .before .before .before .before .before .before .before .before .before .before .before .before .before .before .before .before .edit3 .last .1 .1 .0) (c .before .before .before .before .before .before .before .before .before .before .before .before .before .before .before .asked .last .1 .1 .1 .0) (c .before .before .before .before .before .before .before .before .before .before .before .before .before .before .before .before .before .before .before .before .size3 .result) (c .before .before .before .before .before .before .before .before .before .before .before .before .before .before .before .asked .kept .1 .1 .1 .0) ∙ c .before .before .before .before .before .before .before .before .before .before .before .before .before .before .before .before .before .before .before .before .before .before .before .before .before .before .before .before .edit3 .kept .1 .1 .0
 
--- src/main.rt:45:1
 returns : tie.Need-returns
 returns c = search needs
 

@@ -19,7 +19,6 @@ use contract.Monad.{Fun}
 use contract.Running.{givenOf, tables, tablesOf}
 use sound.WpLaws.{WpFn-mono}
 use types.Kit.{Given, Item, ‵, _⊛_, ⋆, atRet, _$_, _∵_, !, qed, by, move, keep, split, join, fsplit, fjoin, suffices, frame, done}
-use types.Part.{whole}
 use types.Run.{look, store, init, forget, stop, from, lit, and-then, no-more, of-opd, bin, assigns, assigns-last, land, returns, exec, first, blocks, loops, again, enter, alloc1, alloc0, params1, pass1, pass0, free1, free0}
 use denote.Exit.{yes}
 use denote.RattleType.{owns}
@@ -39,14 +38,14 @@ use denote.Triple.Walked.{says, Stays, stay-none-slice, walkOf, Walks, ends-at, 
 use Rattle.rules.specs.declared.rows.Lot.{Lot}
 use Rattle.rules.proofs.rows.Lot as T
 use Rattle.rules.proofs.rows.Lot.Laws as T′
-use Rattle.history.proofs.Loop.{tests, below, next-fits, less, less-wf}
-use Rattle.history.proofs.Locals.{local, part}
-use Rattle.history.proofs.Values.{R, at-list, sv, word, refimm, places, cell, spare}
-use Rattle.history.proofs.LotCalls.{LotRead, reads-lot}
+use Rattle.takings.proofs.Loop.{tests, below, next-fits, less, less-wf}
+use Rattle.takings.proofs.Locals.{local, part}
+use Rattle.takings.proofs.Values.{R, at-list, sv, word, refimm, places, cell, spare}
+use Rattle.takings.proofs.LotCalls.{LotRead, reads-lot}
 use Rattle.cases_history.proofs.Calls.{Mixed, mixes}
-use Rattle.history.proofs.rows.lot_at.Symbol as lot-at-def
-use Rattle.history.proofs.rows.lot_at.Symbol.{name as #lot-at}
-use Rattle.history.proofs.rows.lot_at.Met as lot-at-thm
+use Rattle.takings.proofs.rows.lot_at.Symbol as lot-at-def
+use Rattle.takings.proofs.rows.lot_at.Symbol.{name as #lot-at}
+use Rattle.takings.proofs.rows.lot_at.Met as lot-at-thm
 use Rattle.cases_history.proofs.mixed.Symbol as mixed-def
 use Rattle.cases_history.proofs.mixed.Symbol.{name as #mixed}
 use Rattle.cases_history.proofs.mixed.Met as mixed-thm
@@ -158,5 +157,5 @@ digest-spec 𝓤 H 𝓜 𝓖 𝓡 =
     entered 𝓤 H (tripleOf 𝓤 H (𝓖 .A) f.signature (f.spec 𝓤 H (𝓖 .A) (𝓜 .mem) (𝓡 .run)))
     (tables 𝓤 H 𝓜 𝓡 code.env .C) (tables 𝓤 H 𝓜 𝓡 code.env .Λ) #digest code.function (code.unfolded 𝓤 H 𝓜 𝓡)
     (digest-meets 𝓤 H (𝓖 .A) (givenOf 𝓤 H 𝓜 𝓖) (𝓜 .mem) (𝓡 .run) (tablesOf 𝓤 H 𝓜 (tables 𝓤 H 𝓜 𝓡 code.env))
-    (cited 𝓤 H (LotRead 𝓤 H (𝓖 .A) (𝓜 .mem) (𝓡 .run)) 𝓜 𝓡 code.env #lot-at lot-at-def.routine code.calls-history·rows·lot-at (lot-at-thm.met 𝓤 H 𝓜 𝓖 𝓡))
+    (cited 𝓤 H (LotRead 𝓤 H (𝓖 .A) (𝓜 .mem) (𝓡 .run)) 𝓜 𝓡 code.env #lot-at lot-at-def.routine code.calls-takings·rows·lot-at (lot-at-thm.met 𝓤 H 𝓜 𝓖 𝓡))
     (cited 𝓤 H (Mixed 𝓤 H (𝓖 .A) (𝓜 .mem) (𝓡 .run)) 𝓜 𝓡 code.env #mixed mixed-def.routine code.calls-cases-history·mixed (mixed-thm.met 𝓤 H 𝓜 𝓖 𝓡)))

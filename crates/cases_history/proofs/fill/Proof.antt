@@ -4,9 +4,6 @@ use lib.ListN.{length}
 use borrow.Author.Needs.{needs}
 use Rattle.cases_history.proofs.fill.Statement.{statement}
 use Rattle.cases_history.proofs.fill.Tie as tie
-use Rattle.cases_history.proofs.fill.Reads as reads
-use Rattle.cases_history.proofs.fill.Lts as lts
-use Rattle.cases_history.proofs.fill_one.Reads as fill-one-reads
 
 abbrev Inv-loop : tie.InvT-loop
 Inv-loop kind history₀ i₀ history i = (i ≤ 1024) × (length history ≡ length history₀)
@@ -14,31 +11,24 @@ Inv-loop kind history₀ i₀ history i = (i ≤ 1024) × (length history ≡ le
 abbrev μ-loop : tie.MeasureT-loop
 μ-loop kind history₀ i₀ history i = 1024 - i
 
--- src/main.rt:83:5
 loop-holds : tie.Need-loop-holds Inv-loop μ-loop
 loop-holds c = search needs
 
--- src/main.rt:84:9
 fill-one-requires : tie.Need-fill-one-requires Inv-loop μ-loop
 fill-one-requires c κs = search needs
 
--- src/main.rt:85:9
 add-i : tie.Need-add-i Inv-loop μ-loop
 add-i c = search needs
 
--- src/main.rt:83:5
 loop-less : tie.Need-loop-less Inv-loop μ-loop
 loop-less c = search needs
 
--- src/main.rt:83:5
 loop-again : tie.Need-loop-again Inv-loop μ-loop
 loop-again c = search needs
 
--- src/main.rt:81:1
 same-length : tie.Need-same-length Inv-loop μ-loop
 same-length c = search needs
 
--- src/main.rt:81:1
 returns : tie.Need-returns Inv-loop μ-loop
 returns c = search needs
 

@@ -1,7 +1,7 @@
 -- `cases_history::lent` meets its contract: a walk of its MIR, by hand. Two arrays of lots are made in locals, so many rows of each are lent to `traced`, and the arrays are freed (`Calls.antt`). Its parameters are plain, so whoever calls it needs no walk.
 -- Assumes nothing.
 use mathlib.Core.Path.{refl}
-use Prim.Native.Nat.{ℕ, _<_, _≤_, _^_, _-_}
+use Prim.Native.Nat.{ℕ, _<_, _≤_, _^_}
 use native.Mathlib.Omega.{arith}
 use mathlib.Core.List.{List, [], _∷_}
 use lib.ListN.{length, replicate}
@@ -49,8 +49,8 @@ use Rattle.rules.proofs.rows.Nonce as Nn
 use Rattle.rules.proofs.rows.Nonce.Laws as Nn′
 use Rattle.rules.proofs.desk.Desk as Dk
 use Rattle.rules.proofs.desk.Desk.Laws as Dk′
-use Rattle.history.proofs.Locals.{local}
-use Rattle.history.proofs.Values.{R, machOf, number-is, lot-is, Desks, machK, Nonces, machN, at-list, sv}
+use Rattle.takings.proofs.Locals.{local}
+use Rattle.takings.proofs.Values.{R, machOf, number-is, lot-is, Desks, machK, Nonces, machN, at-list, sv}
 use Rattle.cases_history.specs.declared.Seen.{Seen}
 use Rattle.cases_history.proofs.Seen as Sn
 use Rattle.cases_history.proofs.Seen.Laws as Sn′

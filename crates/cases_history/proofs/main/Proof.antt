@@ -2,9 +2,6 @@ use Prim.Native.Nat.{_-_, _≤_}
 use borrow.Author.Needs.{needs}
 use Rattle.cases_history.proofs.main.Statement.{statement}
 use Rattle.cases_history.proofs.main.Tie as tie
-use Rattle.cases_history.proofs.main.Reads as reads
-use Rattle.cases_history.proofs.main.Lts as lts
-use Rattle.cases_history.proofs.one.Reads as one-reads
 
 abbrev Inv-loop : tie.InvT-loop
 Inv-loop k₀ k = k ≤ 52
@@ -12,27 +9,21 @@ Inv-loop k₀ k = k ≤ 52
 abbrev μ-loop : tie.MeasureT-loop
 μ-loop k₀ k = 52 - k
 
--- src/main.rt:19:5
 loop-holds : tie.Need-loop-holds Inv-loop μ-loop
 loop-holds c = search needs
 
--- src/main.rt:20:9
 one-requires : tie.Need-one-requires Inv-loop μ-loop
 one-requires c κs = search needs
 
--- src/main.rt:19:9
 add-k : tie.Need-add-k Inv-loop μ-loop
 add-k c = search needs
 
--- src/main.rt:19:5
 loop-less : tie.Need-loop-less Inv-loop μ-loop
 loop-less c = search needs
 
--- src/main.rt:19:5
 loop-again : tie.Need-loop-again Inv-loop μ-loop
 loop-again c = search needs
 
--- src/main.rt:18:1
 returns : tie.Need-returns Inv-loop μ-loop
 returns c = search needs
 

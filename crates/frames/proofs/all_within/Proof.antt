@@ -1,5 +1,5 @@
-use Prim.Native.Nat.{_+_, _-_, _≤_}
-use mathlib.Core.Path.{_≡_, refl, sym, _∙_}
+use Prim.Native.Nat.{_-_, _≤_}
+use mathlib.Core.Path.{_≡_, sym, _∙_}
 use native.Mathlib.Omega.{arith}
 use lib.ListN.{length, drop}
 use borrow.Author.Tests.{not-true, not-false}
@@ -9,9 +9,6 @@ use Rattle.frames.proofs.Laws.{all-fails, all-goes, all-end}
 use borrow.Author.Needs.{needs}
 use Rattle.frames.proofs.all_within.Statement.{statement}
 use Rattle.frames.proofs.all_within.Tie as tie
-use Rattle.frames.proofs.all_within.Reads as reads
-use Rattle.frames.proofs.all_within.Lts as lts
-use Rattle.desk.proofs.fields.is_within.Reads as is-within-reads
 
 abbrev Inv-loop : tie.InvT-loop
 Inv-loop s lo hi i₀ i = (i ≤ length s) × (all (within lo hi) s ≡ all (within lo hi) (drop i s))
@@ -19,45 +16,36 @@ Inv-loop s lo hi i₀ i = (i ≤ length s) × (all (within lo hi) s ≡ all (wit
 abbrev μ-loop : tie.MeasureT-loop
 μ-loop s lo hi i₀ i = length s - i
 
--- src/lib.rt:51:5
 loop-holds : tie.Need-loop-holds Inv-loop μ-loop
 loop-holds c = search needs
 
--- src/lib.rt:52:31
 mul-is-within : tie.Need-mul-is-within Inv-loop μ-loop
 mul-is-within c = search needs
 
--- src/lib.rt:52:31
 shared-slice-read-is-within : tie.Need-shared-slice-read-is-within Inv-loop μ-loop
 shared-slice-read-is-within c = search needs
 
--- src/lib.rt:52:13
 is-within-requires : tie.Need-is-within-requires Inv-loop μ-loop
 is-within-requires c κs = search needs
 
--- src/lib.rt:53:13
 returns : tie.Need-returns Inv-loop μ-loop
 returns c =
     let l = c .before .before .before .before in
     let a = c .before .before .before .before .before .before .args in
     sym (l .loop .inv .1 ∙ all-fails (within (a .lo) (a .hi)) (a .s .now) (l .loop .i) (omega arith) (sym (c .before .is-within .ensures) ∙ not-true (c .before .is-within .result) (c .if1 .taken)))
 
--- src/lib.rt:55:9
 add-i : tie.Need-add-i Inv-loop μ-loop
 add-i c = search needs
 
--- src/lib.rt:51:5
 loop-less : tie.Need-loop-less Inv-loop μ-loop
 loop-less c = search needs
 
--- src/lib.rt:51:5
 loop-again : tie.Need-loop-again Inv-loop μ-loop
 loop-again c =
     let l = c .before .before .before .before in
     let a = c .before .before .before .before .before .before .args in
     (search needs, l .loop .inv .1 ∙ all-goes (within (a .lo) (a .hi)) (a .s .now) (l .loop .i) (omega arith) (sym (c .before .is-within .ensures) ∙ not-false (c .before .is-within .result) (c .if1 .left)))
 
--- src/lib.rt:47:1
 returns-2 : tie.Need-returns-2 Inv-loop μ-loop
 returns-2 c =
     let l = c .before in

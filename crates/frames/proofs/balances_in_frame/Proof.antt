@@ -1,7 +1,7 @@
 use Prim.Native.Nat.{_+_, _-_, _*_, _≤_}
-use mathlib.Core.Path.{_≡_, refl, sym, _∙_}
+use mathlib.Core.Path.{_≡_, sym, _∙_}
 use native.Mathlib.Omega.{arith}
-use lib.ListN.{length, drop}
+use lib.ListN.{drop}
 use borrow.Author.Tests.{not-true, not-false}
 use borrow.Author.Needs.{needs}
 use Rattle.rules.specs.Limits.{within}
@@ -9,9 +9,6 @@ use Rattle.rules.specs.Lists.{all}
 use Rattle.frames.proofs.Laws.{part-fails, part-goes, all-end}
 use Rattle.frames.proofs.balances_in_frame.Statement.{statement}
 use Rattle.frames.proofs.balances_in_frame.Tie as tie
-use Rattle.frames.proofs.balances_in_frame.Reads as reads
-use Rattle.frames.proofs.balances_in_frame.Lts as lts
-use Rattle.frames.proofs.all_within.Reads as all-within-reads
 
 abbrev Inv-loop : tie.InvT-loop
 Inv-loop b cells m₀ m = (m ≤ 16) × (all (within 0 1000000000000000) b ≡ all (within 0 1000000000000000) (drop (m * 8) b))
@@ -19,54 +16,42 @@ Inv-loop b cells m₀ m = (m ≤ 16) × (all (within 0 1000000000000000) b ≡ a
 abbrev μ-loop : tie.MeasureT-loop
 μ-loop b cells m₀ m = 16 - m
 
--- src/lib.rt:94:5
 loop-holds : tie.Need-loop-holds Inv-loop μ-loop
 loop-holds c = search needs
 
--- src/lib.rt:95:18
 mul-at : tie.Need-mul-at Inv-loop μ-loop
 mul-at c = search needs
 
--- src/lib.rt:96:35
 add-all-within : tie.Need-add-all-within Inv-loop μ-loop
 add-all-within c = search needs
 
--- src/lib.rt:96:24
 mul-all-within : tie.Need-mul-all-within Inv-loop μ-loop
 mul-all-within c = search needs
 
--- src/lib.rt:96:24
 sub-all-within : tie.Need-sub-all-within Inv-loop μ-loop
 sub-all-within c = search needs
 
--- src/lib.rt:96:24
 part-all-within-start : tie.Need-part-all-within-start Inv-loop μ-loop
 part-all-within-start c = search needs
 
--- src/lib.rt:96:24
 part-all-within-end : tie.Need-part-all-within-end Inv-loop μ-loop
 part-all-within-end c = search needs
 
--- src/lib.rt:96:13
 all-within-requires : tie.Need-all-within-requires Inv-loop μ-loop
 all-within-requires c κs = search needs
 
--- src/lib.rt:97:13
 returns : tie.Need-returns Inv-loop μ-loop
 returns c =
     let l = c .before .before .before .before in
     let a = c .before .before .before .before .before .before .args in
     sym (l .loop .inv .1 ∙ part-fails (within 0 1000000000000000) (a .b .now) (l .loop .m * 8) (l .loop .m * 8 + 8 - l .loop .m * 8) (sym (c .before .all-within .ensures) ∙ not-true (c .before .all-within .result) (c .if1 .taken)))
 
--- src/lib.rt:99:9
 add-m : tie.Need-add-m Inv-loop μ-loop
 add-m c = search needs
 
--- src/lib.rt:94:5
 loop-less : tie.Need-loop-less Inv-loop μ-loop
 loop-less c = search needs
 
--- src/lib.rt:94:5
 loop-again : tie.Need-loop-again Inv-loop μ-loop
 loop-again c =
     let l = c .before .before .before .before in
@@ -74,7 +59,6 @@ loop-again c =
     let e : l .loop .m * 8 + (l .loop .m * 8 + 8 - l .loop .m * 8) ≡ (l .loop .m + 1) * 8 = omega arith in
     (search needs, l .loop .inv .1 ∙ part-goes (within 0 1000000000000000) (a .b .now) (l .loop .m * 8) (l .loop .m * 8 + 8 - l .loop .m * 8) (sym (c .before .all-within .ensures) ∙ not-false (c .before .all-within .result) (c .if1 .left)) ∙ rw e)
 
--- src/lib.rt:89:1
 returns-2 : tie.Need-returns-2 Inv-loop μ-loop
 returns-2 c =
     let l = c .before in

@@ -2,10 +2,7 @@ use mathlib.Core.Path.{refl}
 use Rattle.frames.specs.Parts.{countsFrame}
 use Rattle.frames.proofs.counts_in_frame.Statement.{statement}
 use Rattle.frames.proofs.counts_in_frame.Tie as tie
-use Rattle.frames.proofs.counts_in_frame.Reads as reads
-use Rattle.frames.proofs.counts_in_frame.Lts as lts
 
--- src/lib.rt:27:1
 returns : tie.Need-returns
 unfolding countsFrame
 returns c = refl

@@ -1,5 +1,5 @@
-use Prim.Native.Nat.{_+_, _-_, _≤_}
-use mathlib.Core.Path.{_≡_, refl, sym, _∙_}
+use Prim.Native.Nat.{_-_, _≤_}
+use mathlib.Core.Path.{_≡_, sym, _∙_}
 use native.Mathlib.Omega.{arith}
 use lib.ListN.{length}
 use borrow.Author.Tests.{not-true, not-false}
@@ -7,9 +7,6 @@ use Rattle.frames.proofs.Frames.{InboxFrom, inbox-size, inbox-count, in
 use borrow.Author.Needs.{needs}
 use Rattle.frames.proofs.inbox_in_frame.Statement.{statement}
 use Rattle.frames.proofs.inbox_in_frame.Tie as tie
-use Rattle.frames.proofs.inbox_in_frame.Reads as reads
-use Rattle.frames.proofs.inbox_in_frame.Lts as lts
-use Rattle.frames.proofs.deposit_in_frame.Reads as deposit-in-frame-reads
 
 abbrev Inv-loop : tie.InvT-loop
 Inv-loop t n last i₀ before₀ i before = (i ≤ n) × (n ≤ 64) × (length t ≡ 256) × InboxFrom t n last before i
@@ -17,73 +14,56 @@ Inv-loop t n last i₀ before₀ i before = (i ≤ n) × (n ≤ 64) × (length t
 abbrev μ-loop : tie.MeasureT-loop
 μ-loop t n last i₀ before₀ i before = n - i
 
--- src/lib.rt:65:9
 returns : tie.Need-returns Inv-loop μ-loop
 returns c = inbox-size _ _ _ (c .if1 .taken)
 
--- src/lib.rt:68:9
 returns-2 : tie.Need-returns-2 Inv-loop μ-loop
 returns-2 c = inbox-count _ _ _ (c .if2 .taken) (c .before .if1 .left)
 
--- src/lib.rt:72:5
 loop-holds : tie.Need-loop-holds Inv-loop μ-loop
 loop-holds c = (search needs, c .if2 .left, c .before .if1 .left, inbox-none _ _ _ (c .before .if1 .left) (c .if2 .left))
 
--- src/lib.rt:73:18
 mul-at : tie.Need-mul-at Inv-loop μ-loop
 mul-at c = search needs
 
--- src/lib.rt:74:22
 mul-number : tie.Need-mul-number Inv-loop μ-loop
 mul-number c = search needs
 
--- src/lib.rt:74:22
 shared-slice-read-number : tie.Need-shared-slice-read-number Inv-loop μ-loop
 shared-slice-read-number c = search needs
 
--- src/lib.rt:75:54
 add-deposit-in-frame : tie.Need-add-deposit-in-frame Inv-loop μ-loop
 add-deposit-in-frame c = search needs
 
--- src/lib.rt:75:52
 mul-deposit-in-frame : tie.Need-mul-deposit-in-frame Inv-loop μ-loop
 mul-deposit-in-frame c = search needs
 
--- src/lib.rt:75:52
 shared-slice-read-deposit-in-frame : tie.Need-shared-slice-read-deposit-in-frame Inv-loop μ-loop
 shared-slice-read-deposit-in-frame c = search needs
 
--- src/lib.rt:75:65
 add-deposit-in-frame-2 : tie.Need-add-deposit-in-frame-2 Inv-loop μ-loop
 add-deposit-in-frame-2 c = search needs
 
--- src/lib.rt:75:63
 mul-deposit-in-frame-2 : tie.Need-mul-deposit-in-frame-2 Inv-loop μ-loop
 mul-deposit-in-frame-2 c = search needs
 
--- src/lib.rt:75:63
 shared-slice-read-deposit-in-frame-2 :
     tie.Need-shared-slice-read-deposit-in-frame-2 Inv-loop μ-loop
 shared-slice-read-deposit-in-frame-2 c = search needs
 
--- src/lib.rt:75:76
 add-deposit-in-frame-3 : tie.Need-add-deposit-in-frame-3 Inv-loop μ-loop
 add-deposit-in-frame-3 c = search needs
 
--- src/lib.rt:75:74
 mul-deposit-in-frame-3 : tie.Need-mul-deposit-in-frame-3 Inv-loop μ-loop
 mul-deposit-in-frame-3 c = search needs
 
--- src/lib.rt:75:74
 shared-slice-read-deposit-in-frame-3 :
     tie.Need-shared-slice-read-deposit-in-frame-3 Inv-loop μ-loop
 shared-slice-read-deposit-in-frame-3 c = search needs
 
--- src/lib.rt:75:13
 deposit-in-frame-requires : tie.Need-deposit-in-frame-requires Inv-loop μ-loop
 deposit-in-frame-requires c κs = search needs
 
--- src/lib.rt:76:13
 returns-3 : tie.Need-returns-3 Inv-loop μ-loop
 returns-3 c =
     let l = c .before .before .before .before .before .before .before in
@@ -91,15 +71,12 @@ returns-3 c =
     inbox-fails (a .t .now) (a .n) (a .last) (l .loop .before) (l .loop .i) (omega arith) (l .loop .inv .3)
     (inbox-row (a .t .now) (a .n) (a .last) (l .loop .before) (l .loop .i) ∙ sym (c .before .deposit-in-frame .ensures) ∙ not-true (c .before .deposit-in-frame .result) (c .if3 .taken))
 
--- src/lib.rt:79:9
 add-i : tie.Need-add-i Inv-loop μ-loop
 add-i c = search needs
 
--- src/lib.rt:72:5
 loop-less : tie.Need-loop-less Inv-loop μ-loop
 loop-less c = search needs
 
--- src/lib.rt:72:5
 loop-again : tie.Need-loop-again Inv-loop μ-loop
 loop-again c =
     let l = c .before .before .before .before .before .before .before in
@@ -111,7 +88,6 @@ loop-again c =
           (inbox-row (a .t .now) (a .n) (a .last) (l .loop .before) (l .loop .i) ∙ sym (c .before .deposit-in-frame .ensures) ∙ not-false (c .before .deposit-in-frame .result) (c .if3 .left)),
     )
 
--- src/lib.rt:61:1
 returns-4 : tie.Need-returns-4 Inv-loop μ-loop
 returns-4 c =
     let l = c .before in

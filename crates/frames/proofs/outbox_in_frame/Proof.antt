@@ -1,5 +1,5 @@
 use Prim.Native.Nat.{_+_, _-_, _≤_}
-use mathlib.Core.Path.{_≡_, refl, sym, _∙_}
+use mathlib.Core.Path.{_≡_, sym, _∙_}
 use native.Mathlib.Omega.{arith}
 use lib.ListN.{length}
 use borrow.Author.Tests.{not-true, not-false}
@@ -7,9 +7,6 @@ use Rattle.frames.proofs.Frames.{OutboxFrom, outbox-size, outbox-count,
 use borrow.Author.Needs.{needs}
 use Rattle.frames.proofs.outbox_in_frame.Statement.{statement}
 use Rattle.frames.proofs.outbox_in_frame.Tie as tie
-use Rattle.frames.proofs.outbox_in_frame.Reads as reads
-use Rattle.frames.proofs.outbox_in_frame.Lts as lts
-use Rattle.frames.proofs.payment_in_frame.Reads as payment-in-frame-reads
 
 abbrev Inv-loop : tie.InvT-loop
 Inv-loop t n next used i₀ due₀ i due = (i ≤ n) × (n ≤ 32) × (length t ≡ 128) × (due + (n - i) ≡ next) × OutboxFrom t n next due i
@@ -17,78 +14,60 @@ Inv-loop t n next used i₀ due₀ i due = (i ≤ n) × (n ≤ 32) × (length t 
 abbrev μ-loop : tie.MeasureT-loop
 μ-loop t n next used i₀ due₀ i due = n - i
 
--- src/lib.rt:96:9
 returns : tie.Need-returns Inv-loop μ-loop
 returns c = outbox-size _ _ _ (c .if1 .taken)
 
--- src/lib.rt:99:9
 returns-2 : tie.Need-returns-2 Inv-loop μ-loop
 returns-2 c = outbox-count _ _ _ (c .if2 .taken) (c .before .if1 .left)
 
--- src/lib.rt:103:9
 returns-3 : tie.Need-returns-3 Inv-loop μ-loop
 returns-3 c = outbox-before _ _ _ (c .if3 .taken) (c .before .before .if1 .left) (c .before .if2 .left)
 
--- src/lib.rt:107:5
 loop-holds : tie.Need-loop-holds Inv-loop μ-loop
 loop-holds c = (search needs, c .before .if2 .left, c .before .before .if1 .left, omega arith, outbox-none _ _ _ (c .before .before .if1 .left) (c .before .if2 .left) (c .if3 .left))
 
--- src/lib.rt:108:18
 mul-at : tie.Need-mul-at Inv-loop μ-loop
 mul-at c = search needs
 
--- src/lib.rt:109:35
 mul-payment-in-frame : tie.Need-mul-payment-in-frame Inv-loop μ-loop
 mul-payment-in-frame c = search needs
 
--- src/lib.rt:109:35
 shared-slice-read-payment-in-frame : tie.Need-shared-slice-read-payment-in-frame Inv-loop μ-loop
 shared-slice-read-payment-in-frame c = search needs
 
--- src/lib.rt:109:44
 add-payment-in-frame : tie.Need-add-payment-in-frame Inv-loop μ-loop
 add-payment-in-frame c = search needs
 
--- src/lib.rt:109:42
 mul-payment-in-frame-2 : tie.Need-mul-payment-in-frame-2 Inv-loop μ-loop
 mul-payment-in-frame-2 c = search needs
 
--- src/lib.rt:109:42
 shared-slice-read-payment-in-frame-2 :
     tie.Need-shared-slice-read-payment-in-frame-2 Inv-loop μ-loop
 shared-slice-read-payment-in-frame-2 c = search needs
 
--- src/lib.rt:109:55
 add-payment-in-frame-2 : tie.Need-add-payment-in-frame-2 Inv-loop μ-loop
 add-payment-in-frame-2 c = search needs
 
--- src/lib.rt:109:53
 mul-payment-in-frame-3 : tie.Need-mul-payment-in-frame-3 Inv-loop μ-loop
 mul-payment-in-frame-3 c = search needs
 
--- src/lib.rt:109:53
 shared-slice-read-payment-in-frame-3 :
     tie.Need-shared-slice-read-payment-in-frame-3 Inv-loop μ-loop
 shared-slice-read-payment-in-frame-3 c = search needs
 
--- src/lib.rt:109:66
 add-payment-in-frame-3 : tie.Need-add-payment-in-frame-3 Inv-loop μ-loop
 add-payment-in-frame-3 c = search needs
 
--- src/lib.rt:109:64
 mul-payment-in-frame-4 : tie.Need-mul-payment-in-frame-4 Inv-loop μ-loop
 mul-payment-in-frame-4 c = search needs
 
--- src/lib.rt:109:64
 shared-slice-read-payment-in-frame-4 :
     tie.Need-shared-slice-read-payment-in-frame-4 Inv-loop μ-loop
 shared-slice-read-payment-in-frame-4 c = search needs
 
--- src/lib.rt:109:13
 payment-in-frame-requires : tie.Need-payment-in-frame-requires Inv-loop μ-loop
 payment-in-frame-requires c κs = search needs
 
--- src/lib.rt:110:13
 returns-4 : tie.Need-returns-4 Inv-loop μ-loop
 returns-4 c =
     let l = c .before .before .before .before .before .before .before in
@@ -96,19 +75,15 @@ returns-4 c =
     outbox-fails (a .t .now) (a .n) (a .next) (l .loop .due) (l .loop .i) (omega arith) (l .loop .inv .4)
     (outbox-row (a .t .now) (a .n) (a .next) (l .loop .due) (l .loop .i) ∙ sym (c .before .payment-in-frame .ensures) ∙ not-true (c .before .payment-in-frame .result) (c .if4 .taken))
 
--- src/lib.rt:112:9
 add-due : tie.Need-add-due Inv-loop μ-loop
 add-due c = search needs
 
--- src/lib.rt:113:9
 add-i : tie.Need-add-i Inv-loop μ-loop
 add-i c = search needs
 
--- src/lib.rt:107:5
 loop-less : tie.Need-loop-less Inv-loop μ-loop
 loop-less c = search needs
 
--- src/lib.rt:107:5
 loop-again : tie.Need-loop-again Inv-loop μ-loop
 loop-again c =
     let l = c .before .before .before .before .before .before .before in
@@ -121,7 +96,6 @@ loop-again c =
           (outbox-row (a .t .now) (a .n) (a .next) (l .loop .due) (l .loop .i) ∙ sym (c .before .payment-in-frame .ensures) ∙ not-false (c .before .payment-in-frame .result) (c .if4 .left)),
     )
 
--- src/lib.rt:92:1
 returns-5 : tie.Need-returns-5 Inv-loop μ-loop
 returns-5 c =
     let l = c .before in

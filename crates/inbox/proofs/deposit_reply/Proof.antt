@@ -1,90 +1,60 @@
 use Rattle.rules.specs.Answer.{bookOf}
+use Rattle.frames.specs.Parts.{deskWith}
 use Rattle.inbox.proofs.Laws.{deposit-told}
 use borrow.Author.Needs.{needs}
 use Rattle.inbox.proofs.deposit_reply.Statement.{statement}
 use Rattle.inbox.proofs.deposit_reply.Tie as tie
-use Rattle.inbox.proofs.deposit_reply.Reads as reads
-use Rattle.inbox.proofs.deposit_reply.Lts as lts
-use Rattle.desk.proofs.answers.refuse.Reads as refuse-reads
-use Rattle.desk.proofs.fields.is_amount.Reads as is-amount-reads
-use Rattle.desk.proofs.fields.is_asset.Reads as is-asset-reads
-use Rattle.desk.proofs.fields.is_member.Reads as is-member-reads
-use Rattle.desk.proofs.fields.of_eight.Reads as of-eight-reads
-use Rattle.frames.proofs.counts_of.Reads as counts-of-reads
-use Rattle.frames.proofs.in_frame.Reads as in-frame-reads
-use Rattle.inbox.proofs.is_gap.Reads as is-gap-reads
-use Rattle.inbox.proofs.passes_ceiling.Reads as passes-ceiling-reads
 
--- src/lib.rt:57:9
 refuse-requires : tie.Need-refuse-requires
 refuse-requires c κs = search needs
 
--- src/lib.rt:58:35
 of-eight-requires : tie.Need-of-eight-requires
 of-eight-requires c κs = search needs
 
--- src/lib.rt:58:20
 passes-ceiling-requires : tie.Need-passes-ceiling-requires
 passes-ceiling-requires c κs = search needs
 
--- src/lib.rt:58:9
 refuse-requires-2 : tie.Need-refuse-requires-2
 refuse-requires-2 c κs = search needs
 
--- src/lib.rt:59:20
 is-gap-requires : tie.Need-is-gap-requires
 is-gap-requires c κs = search needs
 
--- src/lib.rt:59:9
 refuse-requires-3 : tie.Need-refuse-requires-3
 refuse-requires-3 c κs = search needs
 
--- src/lib.rt:60:9
 refuse-requires-4 : tie.Need-refuse-requires-4
 refuse-requires-4 c κs = search needs
 
--- src/lib.rt:61:21
 is-amount-requires : tie.Need-is-amount-requires
 is-amount-requires c κs = search needs
 
--- src/lib.rt:61:9
 refuse-requires-5 : tie.Need-refuse-requires-5
 refuse-requires-5 c κs = search needs
 
--- src/lib.rt:62:21
 is-asset-requires : tie.Need-is-asset-requires
 is-asset-requires c κs = search needs
 
--- src/lib.rt:62:9
 refuse-requires-6 : tie.Need-refuse-requires-6
 refuse-requires-6 c κs = search needs
 
--- src/lib.rt:63:21
 is-member-requires : tie.Need-is-member-requires
 is-member-requires c κs = search needs
 
--- src/lib.rt:63:9
 refuse-requires-7 : tie.Need-refuse-requires-7
 refuse-requires-7 c κs = search needs
 
--- src/lib.rt
-counts-of-requires : tie.Need-counts-of-requires
-counts-of-requires c κs = search needs
-
--- src/lib.rt:64:13
 in-frame-requires : tie.Need-in-frame-requires
 in-frame-requires c κs = search needs
 
--- src/lib.rt:64:5
 refuse-requires-8 : tie.Need-refuse-requires-8
 refuse-requires-8 c κs = search needs
 
--- src/lib.rt:52:1
 returns : tie.Need-returns
 returns c =
-    let a = c .before .before .before .before .before .before .before .before .before .before .before .before .before .before .before .before .before .before .before .before .before .before .before .before .before .before .before .before .before .before .args in
-    rw (c .refuse8 .ensures, c .before .in-frame .ensures, c .before .before .before .before .before .before .before .counts-of .ensures, c .before .before .before .before .before .before .before .before .refuse7 .ensures, c .before .before .before .before .before .before .before .before .before .is-member .ensures, c .before .before .before .before .before .before .before .before .before .before .refuse6 .ensures, c .before .before .before .before .before .before .before .before .before .before .before .is-asset .ensures, c .before .before .before .before .before .before .before .before .before .before .before .before .refuse5 .ensures, c .before .before .before .before .before .before .before .before .before .before .before .before .before .is-amount .ensures, c .before .before .before .before .before .before .before .before .before .before .before .before .before .before .refuse4 .ensures, c .before .before .before .before .before .before .before .before .before .before .before .before .before .before .before .before .before .refuse3 .ensures, c .before .before .before .before .before .before .before .before .before .before .before .before .before .before .before .before .before .before .is-gap .ensures, c .before .before .before .before .before .before .before .before .before .before .before .before .before .before .before .before .before .before .before .refuse2 .ensures, c .before .before .before .before .before .before .before .before .before .before .before .before .before .before .before .before .before .before .before .before .passes-ceiling .ensures, c .before .before .before .before .before .before .before .before .before .before .before .before .before .before .before .before .before .before .before .before .before .of-eight .ensures, c .before .before .before .before .before .before .before .before .before .before .before .before .before .before .before .before .before .before .before .before .before .before .before .before .refuse .ensures)
-    (deposit-told (bookOf (a .t1) (a .inbox .now) (a .outbox .now) (a .history .now)) (a .x))
+    let a = c .before .before .before .before .before .before .before .before .before .before .before .before .before .before .before .before .before .before .before .before .before .before .before .args in
+    rw (c .refuse8 .ensures, c .before .in-frame .ensures, c .before .before .refuse7 .ensures, c .before .before .before .is-member .ensures, c .before .before .before .before .refuse6 .ensures, c .before .before .before .before .before .is-asset .ensures, c .before .before .before .before .before .before .refuse5 .ensures, c .before .before .before .before .before .before .before .is-amount .ensures, c .before .before .before .before .before .before .before .before .refuse4 .ensures, c .before .before .before .before .before .before .before .before .before .before .before .refuse3 .ensures, c .before .before .before .before .before .before .before .before .before .before .before .before .is-gap .ensures, c .before .before .before .before .before .before .before .before .before .before .before .before .before .refuse2 .ensures, c .before .before .before .before .before .before .before .before .before .before .before .before .before .before .passes-ceiling .ensures, c .before .before .before .before .before .before .before .before .before .before .before .before .before .before .before .of-eight .ensures, c .before .before .before .before .before .before .before .before .before .before .before .before .before .before .before .before .refuse .ensures)
+    (deposit-told (bookOf (deskWith (a .balances .now) (a .holders .now) (a .lifetime .now) (a .settled .now) (a .counts)) (a .inbox .now) (a .outbox .now) (a .history .now)) (a .x))
 
 pub deposit-reply-spec : {M : Type 1} → statement M
 deposit-reply-spec =
@@ -103,7 +73,6 @@ deposit-reply-spec =
     refuse-requires-6
     is-member-requires
     refuse-requires-7
-    counts-of-requires
     in-frame-requires
     refuse-requires-8
     returns)

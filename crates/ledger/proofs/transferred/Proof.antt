@@ -1,59 +1,59 @@
-use Prim.Native.Nat.{_≤_, _+_}
-use mathlib.Core.Path.{_≡_, sym, ap, _∙_}
+use Prim.Native.Nat.{_≤_}
+use mathlib.Core.Path.{_≡_}
 use native.Mathlib.Omega.{arith}
-use Rattle.rules.specs.declared.desk.Desk.{Desk}
 use Rattle.rules.specs.Limits.{ceiling}
-use Rattle.rules.specs.Lists.{all}
-use Rattle.rules.specs.Effects.{balance}
-use Rattle.rules.specs.Frame.{upToCeiling}
-use Rattle.desk.proofs.Books.{balance-low}
-use Rattle.ledger.proofs.Laws.{sent-low, transferred-is}
+use Rattle.rules.specs.Effects.{balance, credit, debit}
+use Rattle.desk.proofs.Books.{balance-low, balance-set}
+use Rattle.ledger.specs.After.{transferredDesk}
+use Rattle.ledger.proofs.Laws.{sent-low}
 use borrow.Author.Needs.{needs}
 use Rattle.ledger.proofs.transferred.Statement.{statement}
 use Rattle.ledger.proofs.transferred.Tie as tie
-use Rattle.ledger.proofs.transferred.Reads as reads
-use Rattle.ledger.proofs.transferred.Lts as lts
-use Rattle.desk.proofs.fields.balance_of.Reads as balance-of-reads
-use Rattle.desk.proofs.keep.with_balance.Reads as with-balance-reads
 
--- src/lib.rt:62:16
+-- the balances once the sender's is lower
+sent : (c : tie.After-set-balance) → c .set-balance .last .0 ≡ debit (c .before .before .before .before .before .before .args .d .balances) (c .before .before .before .before .before .before .args .t .from) (c .before .before .before .before .before .before .args .t .asset) (c .before .before .before .before .before .before .args .t .amount)
+unfolding debit
+sent c =
+    let a = c .before .before .before .before .before .before .args in
+    let p = c .before .before .before .before .before .before .pre in
+    rw (c .set-balance .ensures, c .before .before .before .balance-of .ensures, balance-set (a .d .balances) (a .t .from) (a .t .asset) _ (p .from) (p .asset))
+
 balance-of-requires : tie.Need-balance-of-requires
 balance-of-requires c κs = search needs
 
--- src/lib.rt:62:16
 sub-less : tie.Need-sub-less
 sub-less c = search needs
 
--- src/lib.rt:63:16
-with-balance-requires : tie.Need-with-balance-requires
-with-balance-requires c κs = search needs
+set-balance-requires : tie.Need-set-balance-requires
+set-balance-requires c κs = search needs
 
--- src/lib.rt:64:16
 balance-of-requires-2 : tie.Need-balance-of-requires-2
 balance-of-requires-2 c κs = search needs
 
--- src/lib.rt:64:16
 add-more : tie.Need-add-more
 add-more c =
-    let a = c .before .before .before .before .before .before .before .before .before .args in
-    let p = c .before .before .before .before .before .before .before .before .before .pre in
-    let low : balance (c .before .before .before .before .with-balance .result .balances) (a .t .to) (a .t .asset) ≤ ceiling = balance-low (c .before .before .before .before .with-balance .result .balances) (a .t .to) (a .t .asset) (rw (c .before .before .before .before .with-balance .ensures, c .before .before .before .before .before .before .balance-of .ensures) (sent-low (a .t1) (a .t) p)) in
+    let a = c .before .before .before .before .before .before .before .before .before .before .args in
+    let p = c .before .before .before .before .before .before .before .before .before .before .pre in
+    let low : balance (c .before .before .before .before .set-balance .last .0) (a .t .to) (a .t .asset) ≤ ceiling = balance-low (c .before .before .before .before .set-balance .last .0) (a .t .to) (a .t .asset) (rw (sent (c .before .before .before .before)) (sent-low (a .d) (a .t) p)) in
     omega (arith, c .before .balance-of2 .ensures, p .amount)
 
--- src/lib.rt:65:9
-with-balance-requires-2 : tie.Need-with-balance-requires-2
-with-balance-requires-2 c κs = search needs
+set-balance-requires-2 : tie.Need-set-balance-requires-2
+set-balance-requires-2 c κs = search needs
 
--- src/lib.rt:66:20
 add-next : tie.Need-add-next
 add-next c = search needs
 
--- src/lib.rt:58:1
 returns : tie.Need-returns
+unfolding transferredDesk credit
 returns c =
-    let a = c .before .before .before .before .before .before .before .before .before .before .args in
-    let p = c .before .before .before .before .before .before .before .before .before .before .pre in
-    rw (c .with-balance2 .ensures, c .before .before .balance-of2 .ensures, c .before .before .before .before .before .with-balance .ensures, c .before .before .before .before .before .before .before .balance-of .ensures) (transferred-is (a .t1) (a .t) p)
+    let a = c .before .before .before .before .before .before .before .before .before .before .before .before .before .args in
+    let p = c .before .before .before .before .before .before .before .before .before .before .before .before .before .pre in
+    rw (
+      c .before .set-balance2 .ensures,
+      c .before .before .before .before .balance-of2 .ensures,
+      sent (c .before .before .before .before .before .before .before),
+      balance-set (debit (a .d .balances) (a .t .from) (a .t .asset) (a .t .amount)) (a .t .to) (a .t .asset) _ (p .to) (p .asset),
+    )
 
 pub transferred-spec : {M : Type 1} → statement M
 transferred-spec =
@@ -61,9 +61,9 @@ transferred-spec =
     (tie.spec
     balance-of-requires
     sub-less
-    with-balance-requires
+    set-balance-requires
     balance-of-requires-2
     add-more
-    with-balance-requires-2
+    set-balance-requires-2
     add-next
     returns)

@@ -1,4 +1,5 @@
 use Rattle.rules.specs.Answer.{bookOf}
+use Rattle.frames.specs.Parts.{deskWith}
 use Rattle.outbox.proofs.Laws.{settle-told}
 use borrow.Author.Needs.{needs}
 use Rattle.outbox.proofs.settle_reply.Statement.{statement}
@@ -10,9 +11,6 @@ number-at-requires c κs = search needs
 refuse-requires : tie.Need-refuse-requires
 refuse-requires c κs = search needs
 
-counts-of-requires : tie.Need-counts-of-requires
-counts-of-requires c κs = search needs
-
 in-frame-requires : tie.Need-in-frame-requires
 in-frame-requires c κs = search needs
 
@@ -21,10 +19,11 @@ refuse-requires-2 c κs = search needs
 
 returns : tie.Need-returns
 returns c =
-    let a = c .before .before .before .before .before .before .before .before .before .before .before .before .before .before .args in
-    rw (c .refuse2 .ensures, c .before .in-frame .ensures, c .before .before .before .before .before .before .before .counts-of .ensures, c .before .before .before .before .before .before .before .before .refuse .ensures, c .before .before .before .before .before .before .before .before .before .before .number-at .ensures) (settle-told (bookOf (a .t1) (a .inbox .now) (a .outbox .now) (a .history .now)) (a .n))
+    let a = c .before .before .before .before .before .before .before .before .before .args in
+    rw (c .refuse2 .ensures, c .before .in-frame .ensures, c .before .before .refuse .ensures, c .before .before .before .before .before .number-at .ensures)
+    (settle-told (bookOf (deskWith (a .balances .now) (a .holders .now) (a .lifetime .now) (a .settled .now) (a .counts)) (a .inbox .now) (a .outbox .now) (a .history .now)) (a .n))
 
 pub settle-reply-spec : {M : Type 1} → statement M
 settle-reply-spec =
     tie.close
-    (tie.spec number-at-requires refuse-requires counts-of-requires in-frame-requires refuse-requires-2 returns)
+    (tie.spec number-at-requires refuse-requires in-frame-requires refuse-requires-2 returns)

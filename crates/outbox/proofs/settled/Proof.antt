@@ -1,5 +1,8 @@
 use native.Mathlib.Omega.{arith}
-use Rattle.outbox.proofs.Laws.{settled-low, settled-is}
+use Rattle.rules.specs.Effects.{raised, total}
+use Rattle.desk.proofs.Books.{eight-set}
+use Rattle.outbox.specs.After.{settledDesk}
+use Rattle.outbox.proofs.Laws.{settled-low}
 use borrow.Author.Needs.{needs}
 use Rattle.outbox.proofs.settled.Statement.{statement}
 use Rattle.outbox.proofs.settled.Tie as tie
@@ -8,10 +11,13 @@ of-eight-requires : tie.Need-of-eight-requires
 of-eight-requires c κs = search needs
 
 add-more : tie.Need-add-more
-add-more c = omega (arith, c .before .of-eight .ensures, settled-low (c .before .before .before .before .args .t1) (c .before .before .before .before .args .p) (c .before .before .before .before .pre), c .before .before .before .before .pre .amount)
+add-more c =
+    let a = c .before .before .before .before .args in
+    let p = c .before .before .before .before .pre in
+    omega (arith, c .before .of-eight .ensures, settled-low (a .d) (a .p) p, p .amount)
 
-with-settled-requires : tie.Need-with-settled-requires
-with-settled-requires c κs = search needs
+set-of-eight-requires : tie.Need-set-of-eight-requires
+set-of-eight-requires c κs = search needs
 
 sub-after : tie.Need-sub-after
 sub-after c = search needs
@@ -20,9 +26,13 @@ sub-after-2 : tie.Need-sub-after-2
 sub-after-2 c = search needs
 
 returns : tie.Need-returns
-returns c = rw (c .with-settled .ensures, c .before .before .of-eight .ensures) (settled-is (c .before .before .before .before .before .args .t1) (c .before .before .before .before .before .args .p) (c .before .before .before .before .before .pre))
+unfolding settledDesk raised total
+returns c =
+    let a = c .before .before .before .before .before .before .before .before .args in
+    let p = c .before .before .before .before .before .before .before .before .pre in
+    rw (c .before .before .set-of-eight .ensures, c .before .before .before .before .before .of-eight .ensures, eight-set (a .d .settled) (a .p .asset) _ (p .asset))
 
 pub settled-spec : {M : Type 1} → statement M
 settled-spec =
     tie.close
-    (tie.spec of-eight-requires add-more with-settled-requires sub-after sub-after-2 returns)
+    (tie.spec of-eight-requires add-more set-of-eight-requires sub-after sub-after-2 returns)

@@ -1,4 +1,5 @@
 use Rattle.rules.specs.Answer.{bookOf}
+use Rattle.frames.specs.Parts.{deskWith}
 use Rattle.outbox.proofs.Laws.{withdraw-told}
 use borrow.Author.Needs.{needs}
 use Rattle.outbox.proofs.withdraw_reply.Statement.{statement}
@@ -40,9 +41,6 @@ is-member-requires c κs = search needs
 refuse-requires-7 : tie.Need-refuse-requires-7
 refuse-requires-7 c κs = search needs
 
-counts-of-requires : tie.Need-counts-of-requires
-counts-of-requires c κs = search needs
-
 in-frame-requires : tie.Need-in-frame-requires
 in-frame-requires c κs = search needs
 
@@ -51,9 +49,9 @@ refuse-requires-8 c κs = search needs
 
 returns : tie.Need-returns
 returns c =
-    let a = c .before .before .before .before .before .before .before .before .before .before .before .before .before .before .before .before .before .before .before .before .before .before .before .before .before .before .args in
-    rw (c .refuse8 .ensures, c .before .in-frame .ensures, c .before .before .before .before .before .before .before .counts-of .ensures, c .before .before .before .before .before .before .before .before .refuse7 .ensures, c .before .before .before .before .before .before .before .before .before .is-member .ensures, c .before .before .before .before .before .before .before .before .before .before .refuse6 .ensures, c .before .before .before .before .before .before .before .before .before .before .before .is-asset .ensures, c .before .before .before .before .before .before .before .before .before .before .before .before .refuse5 .ensures, c .before .before .before .before .before .before .before .before .before .before .before .before .before .is-amount .ensures, c .before .before .before .before .before .before .before .before .before .before .before .before .before .before .refuse4 .ensures, c .before .before .before .before .before .before .before .before .before .before .before .before .before .before .before .is-payee .ensures, c .before .before .before .before .before .before .before .before .before .before .before .before .before .before .before .before .refuse3 .ensures, c .before .before .before .before .before .before .before .before .before .before .before .before .before .before .before .before .before .before .balance-of .ensures, c .before .before .before .before .before .before .before .before .before .before .before .before .before .before .before .before .before .before .before .before .before .refuse2 .ensures, c .before .before .before .before .before .before .before .before .before .before .before .before .before .before .before .before .before .before .before .before .before .before .refuse .ensures)
-    (withdraw-told (bookOf (a .t1) (a .inbox .now) (a .outbox .now) (a .history .now)) (a .w))
+    let a = c .before .before .before .before .before .before .before .before .before .before .before .before .before .before .before .before .before .before .before .before .args in
+    rw (c .refuse8 .ensures, c .before .in-frame .ensures, c .before .before .refuse7 .ensures, c .before .before .before .is-member .ensures, c .before .before .before .before .refuse6 .ensures, c .before .before .before .before .before .is-asset .ensures, c .before .before .before .before .before .before .refuse5 .ensures, c .before .before .before .before .before .before .before .is-amount .ensures, c .before .before .before .before .before .before .before .before .refuse4 .ensures, c .before .before .before .before .before .before .before .before .before .is-payee .ensures, c .before .before .before .before .before .before .before .before .before .before .refuse3 .ensures, c .before .before .before .before .before .before .before .before .before .before .before .before .balance-of .ensures, c .before .before .before .before .before .before .before .before .before .before .before .before .before .refuse2 .ensures, c .before .before .before .before .before .before .before .before .before .before .before .before .before .before .before .refuse .ensures)
+    (withdraw-told (bookOf (deskWith (a .balances .now) (a .holders .now) (a .lifetime .now) (a .settled .now) (a .counts)) (a .inbox .now) (a .outbox .now) (a .history .now)) (a .w))
 
 pub withdraw-reply-spec : {M : Type 1} → statement M
 withdraw-reply-spec =
@@ -71,6 +69,6 @@ withdraw-reply-spec =
     refuse-requires-6
     is-member-requires
     refuse-requires-7
-    counts-of-requires in-frame-requires
+    in-frame-requires
     refuse-requires-8
     returns)

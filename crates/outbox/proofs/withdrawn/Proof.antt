@@ -1,4 +1,6 @@
-use Rattle.outbox.proofs.Laws.{withdrawn-is}
+use Rattle.rules.specs.Effects.{debit}
+use Rattle.desk.proofs.Books.{balance-set}
+use Rattle.outbox.specs.After.{withdrawnDesk}
 use borrow.Author.Needs.{needs}
 use Rattle.outbox.proofs.withdrawn.Statement.{statement}
 use Rattle.outbox.proofs.withdrawn.Tie as tie
@@ -9,8 +11,8 @@ balance-of-requires c κs = search needs
 sub-less : tie.Need-sub-less
 sub-less c = search needs
 
-with-balance-requires : tie.Need-with-balance-requires
-with-balance-requires c κs = search needs
+set-balance-requires : tie.Need-set-balance-requires
+set-balance-requires c κs = search needs
 
 add-number : tie.Need-add-number
 add-number c = search needs
@@ -22,7 +24,11 @@ add-after-2 : tie.Need-add-after-2
 add-after-2 c = search needs
 
 returns : tie.Need-returns
-returns c = rw (c .before .before .with-balance .ensures, c .before .before .before .before .balance-of .ensures) (withdrawn-is (c .before .before .before .before .before .before .before .args .t1) (c .before .before .before .before .before .before .before .args .w) (c .before .before .before .before .before .before .before .pre))
+unfolding withdrawnDesk debit
+returns c =
+    let a = c .before .before .before .before .before .before .before .before .before .before .args in
+    let p = c .before .before .before .before .before .before .before .before .before .before .pre in
+    rw (c .before .before .before .before .set-balance .ensures, c .before .before .before .before .before .before .before .balance-of .ensures, balance-set (a .d .balances) (a .w .member) (a .w .asset) _ (p .member) (p .asset))
 
 pub withdrawn-spec : {M : Type 1} → statement M
 withdrawn-spec =
@@ -30,7 +36,7 @@ withdrawn-spec =
     (tie.spec
     balance-of-requires
     sub-less
-    with-balance-requires
+    set-balance-requires
     add-number
     add-after
     add-after-2

@@ -1,10 +1,10 @@
-use Prim.Native.Nat.{ℕ, _+_, _-_, _≤_, _<_}
+use Prim.Native.Nat.{ℕ, _-_, _≤_, _<_}
 use mathlib.Core.Path.{_≡_, refl, sym, ap, _∙_}
 use mathlib.Core.Bool.{Bool, true, false, cond}
 use native.Mathlib.Omega.{arith}
 use lib.ListN.{length, take}
 use lib.Seq.{length-take-le, take-all}
-use Rattle.lines.proofs.FieldLaws.{from-on}
+use Rattle.fields.proofs.FieldLaws.{from-on}
 use Rattle.runner.proofs.Parts.{rest-length, part-more}
 use Rattle.runner.proofs.Feeds.{none-fed}
 use Rattle.runner.specs.Machine.{Machine, feeds}
@@ -12,10 +12,6 @@ use Rattle.runner.specs.Feeding.{fedMachine, Ready}
 use borrow.Author.Needs.{needs}
 use Rattle.program.proofs.answer_read.Statement.{statement}
 use Rattle.program.proofs.answer_read.Tie as tie
-use Rattle.program.proofs.answer_read.Reads as reads
-use Rattle.program.proofs.answer_read.Lts as lts
-use Rattle.program.proofs.written.Reads as written-reads
-use Rattle.runner.proofs.feed.run_some.Reads as run-some-reads
 
 not-both : false ≡ true → ⊥
 not-both e = let z : _≡_ {A = ℕ} 0 1 = ap (λ (t : Bool). cond t 1 0) e in omega arith
@@ -35,29 +31,23 @@ Inv-loop inbox₀ outbox₀ history₀ hold₀ chunk out₀ g₀ from₀ inbox o
 abbrev μ-loop : tie.MeasureT-loop
 μ-loop inbox₀ outbox₀ history₀ hold₀ chunk out₀ g₀ from₀ inbox outbox history hold out g from = length chunk - from
 
--- src/lib.rt:132:5
 loop-holds : tie.Need-loop-holds Inv-loop μ-loop
 loop-holds c =
     let a = c .before .before .before .before .before .before .args in
     (omega arith, c .before .before .before .before .before .before .pre .0, c .before .before .before .before .before .before .pre .1 .0, none-fed (fedMachine (a .f) (a .inbox .now) (a .outbox .now) (a .history .now) (a .hold .now)) (a .chunk .now), refl, refl, refl, refl, refl)
 
--- src/lib.rt:133:64
 sub-run-some : tie.Need-sub-run-some Inv-loop μ-loop
 sub-run-some c = search needs
 
--- src/lib.rt:133:64
 part-run-some-start : tie.Need-part-run-some-start Inv-loop μ-loop
 part-run-some-start c = search needs
 
--- src/lib.rt:133:64
 part-run-some-end : tie.Need-part-run-some-end Inv-loop μ-loop
 part-run-some-end c = search needs
 
--- src/lib.rt:133:13
 run-some-requires : tie.Need-run-some-requires Inv-loop μ-loop
 run-some-requires c κs = (c .before .before .before .before .before .before .before .loop .inv .1, omega (arith, c .before .before .before .before .before .before .before .loop .inv .2))
 
--- src/lib.rt:142:9
 add-from : tie.Need-add-from Inv-loop μ-loop
 add-from c =
     let first = c .before .before .before .before .before .before .before .before .before .before .before .before .before .before .before .before .before .before .before .before .before .before .before .before .before .before .before .before in
@@ -66,45 +56,35 @@ add-from c =
     let part = c .before .before .before .before .before .before .before .before .before .before .before .before .before .run-some .ensures .moves .within in
     omega arith
 
--- src/lib.rt:143:21
 slice-reshare-prefix-written : tie.Need-slice-reshare-prefix-written Inv-loop μ-loop
 slice-reshare-prefix-written c = c .before .before .before .before .before .before .before .before .before .before .before .before .before .run-some .ensures .within
 
--- src/lib.rt:143:21
 slice-aggregate-written : tie.Need-slice-aggregate-written Inv-loop μ-loop
 slice-aggregate-written c = sym (length-take-le _ _ (c .before .before .before .before .before .before .before .before .before .before .before .before .before .before .run-some .ensures .within))
 
--- src/lib.rt:143:13
 written-requires : tie.Need-written-requires Inv-loop μ-loop
 written-requires c κs = search needs
 
--- src/lib.rt:144:13
 same-length : tie.Need-same-length Inv-loop μ-loop
 same-length c = c .before .before .before .before .before .before .before .before .before .before .before .before .before .before .before .inbox .given ∙ c .before .before .before .before .before .before .before .before .before .before .before .before .before .before .before .before .before .before .before .before .before .before .before .before .loop .inv .4
 
--- src/lib.rt:144:13
 same-length-2 : tie.Need-same-length-2 Inv-loop μ-loop
 same-length-2 c = c .before .before .before .before .before .before .before .before .before .before .before .before .before .outbox .given ∙ c .before .before .before .before .before .before .before .before .before .before .before .before .before .before .before .before .before .before .before .before .before .before .before .before .loop .inv .5
 
--- src/lib.rt:144:13
 same-length-3 : tie.Need-same-length-3 Inv-loop μ-loop
 same-length-3 c = c .before .before .before .before .before .before .before .before .before .before .before .history .given ∙ c .before .before .before .before .before .before .before .before .before .before .before .before .before .before .before .before .before .before .before .before .before .before .before .before .loop .inv .6
 
--- src/lib.rt:144:13
 same-length-4 : tie.Need-same-length-4 Inv-loop μ-loop
 same-length-4 c = c .before .before .before .before .before .before .before .before .before .hold .given ∙ c .before .before .before .before .before .before .before .before .before .before .before .before .before .before .before .before .before .before .before .before .before .before .before .before .loop .inv .7
 
--- src/lib.rt:144:13
 same-length-5 : tie.Need-same-length-5 Inv-loop μ-loop
 same-length-5 c = c .before .before .before .before .before .before .before .out .given ∙ c .before .before .before .before .before .before .before .before .before .before .before .before .before .before .before .before .before .before .before .before .before .before .before .before .loop .inv .8
 
--- src/lib.rt:144:13
 returns : tie.Need-returns Inv-loop μ-loop
 returns c =
     let r = c .before .before .before .before .before .before .before .before .before .before .before .before .before .before .before .before .run-some in
     (record { counted = r .ensures .ready .counted; held = r .ensures .ready .held; size = r .ensures .ready .size }, (refl, λ e. absurd (not-both e)))
 
--- src/lib.rt:132:5
 loop-less : tie.Need-loop-less Inv-loop μ-loop
 loop-less c =
     let v = c .before .before .before .before .before .before .before .before .before .before .before .before .before .before .before .before .before .before .before .before .before .before .before .before .loop in
@@ -113,7 +93,6 @@ loop-less c =
     let some = c .before .before .before .before .before .before .before .before .before .before .before .before .before .before .before .before .run-some .ensures .moves .some (omega (arith, here, rest)) (omega (arith, v .inv .2, v .inv .8, c .before .before .before .before .before .before .before .before .before .before .before .before .before .before .before .before .before .before .before .before .before .before .before .before .before .before .before .before .before .before .before .pre .1 .1)) in
     omega (arith, here, some)
 
--- src/lib.rt:132:5
 loop-again : tie.Need-loop-again Inv-loop μ-loop
 loop-again c =
     let a = c .before .before .before .before .before .before .before .before .before .before .before .before .before .before .before .before .before .before .before .before .before .before .before .before .before .before .before .before .before .before .before .args in
@@ -126,27 +105,21 @@ loop-again c =
     let m : Machine = fedMachine (a .f) (a .inbox .now) (a .outbox .now) (a .history .now) (a .hold .now) in
     (omega (arith, here, rest, within), record { counted = r .ensures .ready .counted; held = r .ensures .ready .held; size = r .ensures .ready .size }, refl, part-more m (a .chunk .now) (v .from) (r .result .next) tail (v .inv .3) (r .ensures .machine), search needs, search needs, search needs, search needs, search needs)
 
--- src/lib.rt:114:1
 same-length-6 : tie.Need-same-length-6 Inv-loop μ-loop
 same-length-6 c = search needs
 
--- src/lib.rt:114:1
 same-length-7 : tie.Need-same-length-7 Inv-loop μ-loop
 same-length-7 c = search needs
 
--- src/lib.rt:114:1
 same-length-8 : tie.Need-same-length-8 Inv-loop μ-loop
 same-length-8 c = search needs
 
--- src/lib.rt:114:1
 same-length-9 : tie.Need-same-length-9 Inv-loop μ-loop
 same-length-9 c = search needs
 
--- src/lib.rt:114:1
 same-length-10 : tie.Need-same-length-10 Inv-loop μ-loop
 same-length-10 c = search needs
 
--- src/lib.rt:114:1
 returns-2 : tie.Need-returns-2 Inv-loop μ-loop
 returns-2 c =
     let a = c .before .before .before .before .before .before .before .before .before .before .args in

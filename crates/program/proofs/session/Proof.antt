@@ -1,4 +1,4 @@
-use Prim.Native.Nat.{_≤_, _<_}
+use Prim.Native.Nat.{_<_}
 use mathlib.Core.Path.{_≡_, refl, sym}
 use native.Mathlib.Omega.{arith}
 use lib.ListN.{length}
@@ -9,12 +9,6 @@ use borrow.Author.Tests.{ltb-true}
 use borrow.Author.Needs.{needs}
 use Rattle.program.proofs.session.Statement.{statement}
 use Rattle.program.proofs.session.Tie as tie
-use Rattle.program.proofs.session.Reads as reads
-use Rattle.program.proofs.session.Lts as lts
-use Rattle.program.proofs.read_once.Reads as read-once-reads
-use Rattle.program.proofs.written.Reads as written-reads
-use Rattle.runner.proofs.feed.close.Reads as close-reads
-use Rattle.runner.proofs.start.start.Reads as start-reads
 
 abbrev Inv-loop : tie.InvT-loop
 Inv-loop fd inbox₀ outbox₀ history₀ hold₀ input₀ out₀ t₀ turns₀ inbox outbox history hold input out t turns =
@@ -30,99 +24,75 @@ Inv-loop fd inbox₀ outbox₀ history₀ hold₀ input₀ out₀ t₀ turns₀ 
 abbrev μ-loop : tie.MeasureT-loop
 μ-loop fd inbox₀ outbox₀ history₀ hold₀ input₀ out₀ t₀ turns₀ inbox outbox history hold input out t turns = turns
 
--- src/lib.rt:58:9
 start-requires : tie.Need-start-requires Inv-loop μ-loop
 start-requires c κs = search needs
 
--- src/lib.rt:65:5
 loop-holds : tie.Need-loop-holds Inv-loop μ-loop
 loop-holds c = (begun-ready (c .start .result) (c .before .before .before .before .before .before .before .args .hold .now) (c .start .ensures) (c .before .before .before .before .before .before .before .pre .0), c .start .ensures .at, refl, refl, refl, refl, refl, refl)
 
--- src/lib.rt:66:9
 read-once-requires : tie.Need-read-once-requires Inv-loop μ-loop
 read-once-requires c κs = (c .before .before .before .before .before .before .before .before .loop .inv .0, (c .before .before .before .before .before .before .before .before .loop .inv .1, omega (arith, c .before .before .before .before .before .before .before .before .loop .inv .7, c .before .before .before .before .before .before .before .before .before .before .before .before .before .before .before .before .pre .1)))
 
--- src/lib.rt:69:9
 sub-turns : tie.Need-sub-turns Inv-loop μ-loop
 sub-turns c = let more : 0 < c .before .before .before .before .before .before .before .before .before .before .before .before .before .before .before .before .before .before .before .before .before .loop .turns = ltb-true _ _ (c .before .before .before .before .before .before .before .before .before .before .before .before .before .before .before .before .before .before .before .if1 .taken) in omega arith
 
--- src/lib.rt:65:5
 loop-less : tie.Need-loop-less Inv-loop μ-loop
 loop-less c = let more : 0 < c .before .before .before .before .before .before .before .before .before .before .before .before .before .before .before .before .before .before .before .before .before .loop .turns = ltb-true _ _ (c .before .before .before .before .before .before .before .before .before .before .before .before .before .before .before .before .before .before .before .if1 .taken) in omega arith
 
--- src/lib.rt:65:5
 loop-again : tie.Need-loop-again Inv-loop μ-loop
 loop-again c = (c .before .before .before .before .before .before .before .before .before .before .before .before .read-once .ensures .0, c .before .before .before .before .before .before .before .before .before .before .before .before .read-once .ensures .1, search needs, search needs, search needs, search needs, search needs, search needs)
 
--- src/lib.rt:72:13
 close-requires : tie.Need-close-requires Inv-loop μ-loop
 close-requires c κs = (c .before .before .before .before .loop .inv .0, omega (arith, c .before .before .before .before .loop .inv .1, c .before .before .before .before .loop .inv .7, c .before .before .before .before .before .before .before .before .before .before .before .before .pre .1))
 
--- src/lib.rt:73:17
 slice-reshare-prefix-written : tie.Need-slice-reshare-prefix-written Inv-loop μ-loop
 slice-reshare-prefix-written c = c .before .before .close .ensures .within
 
--- src/lib.rt:73:17
 slice-aggregate-written : tie.Need-slice-aggregate-written Inv-loop μ-loop
 slice-aggregate-written c = sym (length-take-le _ _ (c .before .before .before .close .ensures .within))
 
--- src/lib.rt:73:9
 written-requires : tie.Need-written-requires Inv-loop μ-loop
 written-requires c κs = search needs
 
--- src/lib.rt:45:1
 same-length : tie.Need-same-length Inv-loop μ-loop
 same-length c = search needs
 
--- src/lib.rt:45:1
 same-length-2 : tie.Need-same-length-2 Inv-loop μ-loop
 same-length-2 c = search needs
 
--- src/lib.rt:45:1
 same-length-3 : tie.Need-same-length-3 Inv-loop μ-loop
 same-length-3 c = search needs
 
--- src/lib.rt:45:1
 same-length-4 : tie.Need-same-length-4 Inv-loop μ-loop
 same-length-4 c = search needs
 
--- src/lib.rt:45:1
 same-length-5 : tie.Need-same-length-5 Inv-loop μ-loop
 same-length-5 c = search needs
 
--- src/lib.rt:45:1
 same-length-6 : tie.Need-same-length-6 Inv-loop μ-loop
 same-length-6 c = search needs
 
--- src/lib.rt:45:1
 returns : tie.Need-returns Inv-loop μ-loop
 returns c = search needs
 
--- src/lib.rt:45:1
 same-length-7 : tie.Need-same-length-7 Inv-loop μ-loop
 same-length-7 c = search needs
 
--- src/lib.rt:45:1
 same-length-8 : tie.Need-same-length-8 Inv-loop μ-loop
 same-length-8 c = search needs
 
--- src/lib.rt:45:1
 same-length-9 : tie.Need-same-length-9 Inv-loop μ-loop
 same-length-9 c = search needs
 
--- src/lib.rt:45:1
 same-length-10 : tie.Need-same-length-10 Inv-loop μ-loop
 same-length-10 c = search needs
 
--- src/lib.rt:45:1
 same-length-11 : tie.Need-same-length-11 Inv-loop μ-loop
 same-length-11 c = search needs
 
--- src/lib.rt:45:1
 same-length-12 : tie.Need-same-length-12 Inv-loop μ-loop
 same-length-12 c = search needs
 
--- src/lib.rt:45:1
 returns-2 : tie.Need-returns-2 Inv-loop μ-loop
 returns-2 c = search needs
 

@@ -3,7 +3,7 @@ use mathlib.Core.Path.{ap}
 use mathlib.Core.List.{[], _∷_}
 use Rattle.rules.specs.declared.answers.Answer.{Answer}
 use Rattle.rules.specs.Replies.{told}
-use Rattle.replies.proofs.PageLaws.{start-alone, start-told}
+use Rattle.replies.proofs.ReplyLaws.{start-alone, start-told}
 use borrow.Author.Needs.{needs}
 use Rattle.replies.proofs.put_answer.Statement.{statement}
 use Rattle.replies.proofs.put_answer.Tie as tie

@@ -3,7 +3,7 @@ use mathlib.Core.List.{[], _∷_, _++_}
 use Rattle.rules.specs.Lists.{bytes}
 use Rattle.rules.specs.Lines.{lineFeed, tabbed}
 use Rattle.rules.specs.Transcript.{endText}
-use Rattle.replies.proofs.PageLaws.{put-then, put-values}
+use Rattle.pages.proofs.PageLaws.{put-then, put-values}
 use borrow.Author.Needs.{needs}
 use Rattle.replies.proofs.put_end.Statement.{statement}
 use Rattle.replies.proofs.put_end.Tie as tie

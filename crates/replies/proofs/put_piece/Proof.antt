@@ -1,6 +1,6 @@
 -- `put_piece`: two values, each after its tab.
 use mathlib.Core.List.{[], _∷_}
-use Rattle.replies.proofs.PageLaws.{put-values}
+use Rattle.pages.proofs.PageLaws.{put-values}
 use borrow.Author.Needs.{needs}
 use Rattle.replies.proofs.put_piece.Statement.{statement}
 use Rattle.replies.proofs.put_piece.Tie as tie

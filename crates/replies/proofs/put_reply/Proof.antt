@@ -1,7 +1,7 @@
 -- `put_reply`: the line number, and then the reply number after its tab.
 use mathlib.Core.List.{[], _∷_}
 use Rattle.rules.specs.Lines.{decimal, tabbed}
-use Rattle.replies.proofs.PageLaws.{put-then}
+use Rattle.pages.proofs.PageLaws.{put-then}
 use borrow.Author.Needs.{needs}
 use Rattle.replies.proofs.put_reply.Statement.{statement}
 use Rattle.replies.proofs.put_reply.Tie as tie

@@ -3,7 +3,7 @@ use mathlib.Core.List.{[], _∷_}
 use Rattle.rules.specs.Replies.{told}
 use Rattle.rules.specs.Lines.{lineFeed}
 use Rattle.replies.specs.Writing.{replyStart, replyLine}
-use Rattle.replies.proofs.PageLaws.{put-then}
+use Rattle.pages.proofs.PageLaws.{put-then}
 use borrow.Author.Needs.{needs}
 use Rattle.replies.proofs.put_reply_line.Statement.{statement}
 use Rattle.replies.proofs.put_reply_line.Tie as tie

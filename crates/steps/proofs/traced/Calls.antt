@@ -1,4 +1,4 @@
--- The call that `put_short_trace` and `put_long_trace` make, as a step of a walk, as in `Rattle.history.proofs.LotCalls`.
+-- The call that `put_short_trace` and `put_long_trace` make, as a step of a walk, as in `Rattle.takings.proofs.LotCalls`.
 --     puts-traced     `put_traced(d, inbox, outbox, history, &mut work, &mut pieces, out, at, line, n)`, where both tables are arrays of the caller's own: they are lent for the call and freed after it (`Rattle.history.proofs.Table`)
 -- Assumes `Given`.
 use mathlib.Core.Path.{_≡_, refl, sym, ap, subst}
@@ -30,7 +30,7 @@ use denote.Triple.Spec.{tripleOf}
 use denote.Triple.Statement.{Contract, Triple}
 use denote.Triple.Call.{calls-at}
 use denote.Triple.Clauses.{ensured, lasts}
-use Rattle.history.proofs.Again.{LentAgain, lends-again-n, comes-back-n}
+use Rattle.takings.proofs.Again.{LentAgain, lends-again-n, comes-back-n}
 use mir.Syntax.{tyArray}
 use base.Fml.{fat, froom, flent}
 use denote.Array.{arrayVal}
@@ -48,8 +48,8 @@ use Rattle.rules.proofs.rows.Nonce.Laws as Nn′
 use Rattle.rules.proofs.desk.Desk as Dk
 use Rattle.rules.proofs.desk.Desk.Laws as Dk′
 use Rattle.history.proofs.Table.{lends-table, table-back}
-use Rattle.history.proofs.Values.{R, machOf, zeros-is, Desks, machK, Nonces, machN, at-list, sv}
-use Rattle.replies.specs.Writing.{page}
+use Rattle.takings.proofs.Values.{R, machOf, zeros-is, Desks, machK, Nonces, machN, at-list, sv}
+use Rattle.pages.specs.Writing.{page}
 use Rattle.steps.specs.declared.step.Stepped.{Stepped}
 use Rattle.steps.specs.Step.{HasTables, repliedOf, replied}
 use Rattle.steps.proofs.step.Stepped as St

@@ -8,9 +8,6 @@ use Rattle.tables.proofs.Edits.{shifted, shifted-none, shifted-one, clo
 use borrow.Author.Needs.{needs}
 use Rattle.tables.proofs.close_up.Statement.{statement}
 use Rattle.tables.proofs.close_up.Tie as tie
-use Rattle.tables.proofs.close_up.Reads as reads
-use Rattle.tables.proofs.close_up.Lts as lts
-use Rattle.tables.proofs.clear.Reads as clear-reads
 
 abbrev Inv-loop : tie.InvT-loop
 Inv-loop t₀ width rows last k₀ t k = (k ≤ last) × (last ≡ (rows - 1) * width) × (last + width ≤ length t₀) × (length t ≡ length t₀) × (t ≡ shifted t₀ width k)
@@ -18,80 +15,62 @@ Inv-loop t₀ width rows last k₀ t k = (k ≤ last) × (last ≡ (rows - 1) * 
 abbrev μ-loop : tie.MeasureT-loop
 μ-loop t₀ width rows last k₀ t k = last - k
 
--- src/lib.rt:80:17
 sub-last : tie.Need-sub-last Inv-loop μ-loop
 sub-last c = search needs
 
--- src/lib.rt:80:16
 mul-last : tie.Need-mul-last Inv-loop μ-loop
 mul-last c = omega (arith, last-row (c .before .args .rows) (c .before .args .width) (c .before .pre .0))
 
--- src/lib.rt:82:5
 loop-holds : tie.Need-loop-holds Inv-loop μ-loop
 loop-holds c =
     let a = c .before .args in
     (search needs, refl, omega (arith, last-row (a .rows) (a .width) (c .before .pre .0)), refl, shifted-none _ _)
 
--- src/lib.rt:83:18
 add-t : tie.Need-add-t Inv-loop μ-loop
 add-t c = search needs
 
--- src/lib.rt:83:16
 mul-t : tie.Need-mul-t Inv-loop μ-loop
 mul-t c = search needs
 
--- src/lib.rt:83:16
 slice-read-t : tie.Need-slice-read-t Inv-loop μ-loop
 slice-read-t c = search needs
 
--- src/lib.rt:83:9
 mul-t-2 : tie.Need-mul-t-2 Inv-loop μ-loop
 mul-t-2 c = search needs
 
--- src/lib.rt:83:9
 slice-write-t : tie.Need-slice-write-t Inv-loop μ-loop
 slice-write-t c = search needs
 
--- src/lib.rt:84:9
 add-k : tie.Need-add-k Inv-loop μ-loop
 add-k c = search needs
 
--- src/lib.rt:82:5
 loop-less : tie.Need-loop-less Inv-loop μ-loop
 loop-less c = search needs
 
--- src/lib.rt:82:5
 loop-again : tie.Need-loop-again Inv-loop μ-loop
 loop-again c =
     let l = c .before .before in
     let a = l .before .before .args in
     (search needs, l .loop .inv .1, l .loop .inv .2, simp length-set (l .loop .inv .3), ap₂ (λ (x : List ℕ) (y : ℕ). set x (l .loop .k) y) (l .loop .inv .4) (ap (λ (x : List ℕ). getD x (l .loop .k + a .width) 0) (l .loop .inv .4)) ∙ shifted-one (a .t .now) (a .width) (l .loop .k) (omega arith))
 
--- src/lib.rt:86:11
 mul-clear : tie.Need-mul-clear Inv-loop μ-loop
 mul-clear c = search needs
 
--- src/lib.rt:86:11
 sub-clear : tie.Need-sub-clear Inv-loop μ-loop
 sub-clear c = search needs
 
--- src/lib.rt:86:11
 part-clear-start : tie.Need-part-clear-start Inv-loop μ-loop
 part-clear-start c = search needs
 
--- src/lib.rt:86:11
 part-clear-end : tie.Need-part-clear-end Inv-loop μ-loop
 part-clear-end c = search needs
 
--- src/lib.rt:86:5
 clear-requires : tie.Need-clear-requires Inv-loop μ-loop
 clear-requires c κs = search needs
 
--- src/lib.rt:75:1
 same-length : tie.Need-same-length Inv-loop μ-loop
 same-length c = search needs
 
--- src/lib.rt:75:1
 returns : tie.Need-returns Inv-loop μ-loop
 returns c =
     let l = c .before .before .before .before .before in

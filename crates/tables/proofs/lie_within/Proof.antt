@@ -1,22 +1,17 @@
 use Prim.Native.Nat.{_<_}
 use native.Mathlib.Omega.{arith}
-use mathlib.Core.Path.{_≡_, sym}
+use mathlib.Core.Path.{sym}
 use Rattle.tables.proofs.Edits.{fits-by-division, no-width}
 use borrow.Author.Needs.{needs}
 use Rattle.tables.proofs.lie_within.Statement.{statement}
 use Rattle.tables.proofs.lie_within.Tie as tie
-use Rattle.tables.proofs.lie_within.Reads as reads
-use Rattle.tables.proofs.lie_within.Lts as lts
 
--- src/lib.rt:69:9
 returns : tie.Need-returns
 returns c = sym (no-width _ _ _ (c .if1 .taken))
 
--- src/lib.rt:71:10
 div-result : tie.Need-div-result
 div-result c = search needs
 
--- src/lib.rt:65:1
 returns-2 : tie.Need-returns-2
 returns-2 c =
     let w : 0 < c .before .args .width = omega (arith, c .if1 .left) in

@@ -1,4 +1,4 @@
-use Prim.Native.Nat.{_+_, _-_, _≤_}
+use Prim.Native.Nat.{_-_, _≤_}
 use mathlib.Core.Path.{_≡_, refl, _∙_}
 use native.Mathlib.Omega.{arith}
 use lib.ListN.{length, length-set}
@@ -6,8 +6,6 @@ use Rattle.tables.proofs.Edits.{copied, copied-none, copied-one, copied
 use borrow.Author.Needs.{needs}
 use Rattle.tables.proofs.put_row.Statement.{statement}
 use Rattle.tables.proofs.put_row.Tie as tie
-use Rattle.tables.proofs.put_row.Reads as reads
-use Rattle.tables.proofs.put_row.Lts as lts
 
 abbrev Inv-loop : tie.InvT-loop
 Inv-loop t₀ at row k₀ t k = (k ≤ length row) × (length t ≡ length t₀) × (t ≡ copied t₀ at row k)
@@ -15,62 +13,48 @@ Inv-loop t₀ at row k₀ t k = (k ≤ length row) × (length t ≡ length t₀)
 abbrev μ-loop : tie.MeasureT-loop
 μ-loop t₀ at row k₀ t k = length row - k
 
--- src/lib.rt:17:9
 returns : tie.Need-returns Inv-loop μ-loop
 returns c = put-none _ _ _ (omega arith)
 
--- src/lib.rt:19:8
 sub-if2 : tie.Need-sub-if2 Inv-loop μ-loop
 sub-if2 c = search needs
 
--- src/lib.rt:20:9
 returns-2 : tie.Need-returns-2 Inv-loop μ-loop
 returns-2 c = put-none _ _ _ (omega arith)
 
--- src/lib.rt:23:5
 loop-holds : tie.Need-loop-holds Inv-loop μ-loop
 loop-holds c = (search needs, refl, copied-none _ _ _)
 
--- src/lib.rt:24:21
 mul-t : tie.Need-mul-t Inv-loop μ-loop
 mul-t c = search needs
 
--- src/lib.rt:24:21
 shared-slice-read-t : tie.Need-shared-slice-read-t Inv-loop μ-loop
 shared-slice-read-t c = search needs
 
--- src/lib.rt:24:11
 add-t : tie.Need-add-t Inv-loop μ-loop
 add-t c = search needs
 
--- src/lib.rt:24:9
 mul-t-2 : tie.Need-mul-t-2 Inv-loop μ-loop
 mul-t-2 c = search needs
 
--- src/lib.rt:24:9
 slice-write-t : tie.Need-slice-write-t Inv-loop μ-loop
 slice-write-t c = search needs
 
--- src/lib.rt:25:9
 add-k : tie.Need-add-k Inv-loop μ-loop
 add-k c = search needs
 
--- src/lib.rt:23:5
 loop-less : tie.Need-loop-less Inv-loop μ-loop
 loop-less c = search needs
 
--- src/lib.rt:23:5
 loop-again : tie.Need-loop-again Inv-loop μ-loop
 loop-again c =
     let l = c .before .before in
     let a = l .before .before .before .args in
     (search needs, simp length-set (l .loop .inv .1), cc (copied-one (a .t .now) (a .at) (a .row .now) (l .loop .k) (search needs) (search needs)))
 
--- src/lib.rt:13:1
 same-length : tie.Need-same-length Inv-loop μ-loop
 same-length c = search needs
 
--- src/lib.rt:13:1
 returns-3 : tie.Need-returns-3 Inv-loop μ-loop
 returns-3 c =
     let l = c .before in

@@ -1,5 +1,5 @@
-use Prim.Native.Nat.{_+_, _-_, _≤_}
-use mathlib.Core.Path.{_≡_, refl, sym, _∙_}
+use Prim.Native.Nat.{_-_, _≤_}
+use mathlib.Core.Path.{_≡_, sym, _∙_}
 use native.Mathlib.Omega.{arith}
 use lib.ListN.{length, take, getD}
 use borrow.Author.Tests.{ne-eqb, eq-eqb}
@@ -8,8 +8,6 @@ use Rattle.tables.proofs.Edits.{sameFrom, same-none, same-one, same-all
 use borrow.Author.Needs.{needs}
 use Rattle.tables.proofs.starts_with.Statement.{statement}
 use Rattle.tables.proofs.starts_with.Tie as tie
-use Rattle.tables.proofs.starts_with.Reads as reads
-use Rattle.tables.proofs.starts_with.Lts as lts
 
 abbrev Inv-loop : tie.InvT-loop
 Inv-loop t row k₀ k = (k ≤ length row) × (length row ≤ length t) × (same row (take (length row) t) ≡ sameFrom k row t)
@@ -17,53 +15,42 @@ Inv-loop t row k₀ k = (k ≤ length row) × (length row ≤ length t) × (same
 abbrev μ-loop : tie.MeasureT-loop
 μ-loop t row k₀ k = length row - k
 
--- src/lib.rt:105:9
 returns : tie.Need-returns Inv-loop μ-loop
 returns c = sym (same-short _ _ (c .if1 .taken))
 
--- src/lib.rt:108:5
 loop-holds : tie.Need-loop-holds Inv-loop μ-loop
 loop-holds c = (search needs, search needs, same-none _ _)
 
--- src/lib.rt:109:12
 mul-if2 : tie.Need-mul-if2 Inv-loop μ-loop
 mul-if2 c = search needs
 
--- src/lib.rt:109:12
 shared-slice-read-if2 : tie.Need-shared-slice-read-if2 Inv-loop μ-loop
 shared-slice-read-if2 c = search needs
 
--- src/lib.rt:109:20
 mul-if2-2 : tie.Need-mul-if2-2 Inv-loop μ-loop
 mul-if2-2 c = search needs
 
--- src/lib.rt:109:20
 shared-slice-read-if2-2 : tie.Need-shared-slice-read-if2-2 Inv-loop μ-loop
 shared-slice-read-if2-2 c = search needs
 
--- src/lib.rt:110:13
 returns-2 : tie.Need-returns-2 Inv-loop μ-loop
 returns-2 c =
     let l = c .before .before .before .before in
     let a = l .before .before .args in
     sym (l .loop .inv .2 ∙ same-one (l .loop .k) (a .row .now) (a .t .now) (omega arith) (omega arith) ∙ rw (ne-eqb (getD (a .row .now) (l .loop .k) 0) (getD (a .t .now) (l .loop .k) 0) (λ e. c .if2 .taken (sym e))))
 
--- src/lib.rt:112:9
 add-k : tie.Need-add-k Inv-loop μ-loop
 add-k c = search needs
 
--- src/lib.rt:108:5
 loop-less : tie.Need-loop-less Inv-loop μ-loop
 loop-less c = search needs
 
--- src/lib.rt:108:5
 loop-again : tie.Need-loop-again Inv-loop μ-loop
 loop-again c =
     let l = c .before .before .before .before in
     let a = l .before .before .args in
     (search needs, search needs, l .loop .inv .2 ∙ same-one (l .loop .k) (a .row .now) (a .t .now) (omega arith) (omega arith) ∙ rw (eq-eqb (getD (a .row .now) (l .loop .k) 0) (getD (a .t .now) (l .loop .k) 0) (sym (c .if2 .left))))
 
--- src/lib.rt:101:1
 returns-3 : tie.Need-returns-3 Inv-loop μ-loop
 returns-3 c =
     let l = c .before in

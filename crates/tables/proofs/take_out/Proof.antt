@@ -1,4 +1,4 @@
-use Prim.Native.Nat.{ℕ, _+_, _-_, _*_, _≤_, _<_}
+use Prim.Native.Nat.{ℕ, _+_, _-_, _*_, _≤_}
 use mathlib.Core.Path.{_≡_, sym, ap, _∙_}
 use native.Mathlib.Omega.{arith}
 use borrow.Author.Tests.{leb-true, not-true, not-false}
@@ -10,12 +10,7 @@ use Rattle.tables.proofs.Edits.{taken-part, taken-none, taken-outside, 
 use borrow.Author.Needs.{needs}
 use Rattle.tables.proofs.take_out.Statement.{statement}
 use Rattle.tables.proofs.take_out.Tie as tie
-use Rattle.tables.proofs.take_out.Reads as reads
-use Rattle.tables.proofs.take_out.Lts as lts
-use Rattle.tables.proofs.close_up.Reads as close-up-reads
-use Rattle.tables.proofs.lie_within.Reads as lie-within-reads
 
--- src/lib.rt:35:9
 -- past both tests the n rows lie within the table, and row i is one of them
 within : (c : tie.Else2) → (c .before .before .before .before .args .i * c .before .before .before .before .args .width + c .before .before .before .before .args .width ≤ c .before .before .before .before .args .n * c .before .before .before .before .args .width) × (c .before .before .before .before .args .n * c .before .before .before .before .args .width ≤ length (c .before .before .before .before .args .t .now))
 within c =
@@ -25,43 +20,34 @@ within c =
 lie-within-requires : tie.Need-lie-within-requires
 lie-within-requires c κs = search needs
 
--- src/lib.rt:36:9
 returns : tie.Need-returns
 returns c =
     let a = c .before .before .before .args in
     taken-outside (a .t .now) (a .width) (a .i) (a .n) (sym (c .before .lie-within .ensures) ∙ not-true (c .before .lie-within .result) (c .if1 .taken))
 
--- src/lib.rt:39:9
 returns-2 : tie.Need-returns-2
 returns-2 c =
     let a = c .before .before .before .before .args in
     taken-none (a .t .now) (a .width) (a .i) (a .n) (c .if2 .taken)
 
--- src/lib.rt:41:16
 mul-from : tie.Need-mul-from
 mul-from c = omega (arith, within c)
 
--- src/lib.rt:42:14
 mul-close-up : tie.Need-mul-close-up
 mul-close-up c = omega (arith, within c)
 
--- src/lib.rt:42:14
 sub-close-up : tie.Need-sub-close-up
 sub-close-up c = omega (arith, within c)
 
--- src/lib.rt:42:14
 part-close-up-start : tie.Need-part-close-up-start
 part-close-up-start c = omega (arith, within c)
 
--- src/lib.rt:42:14
 part-close-up-end : tie.Need-part-close-up-end
 part-close-up-end c = search needs
 
--- src/lib.rt:42:37
 sub-close-up-2 : tie.Need-sub-close-up-2
 sub-close-up-2 c = search needs
 
--- src/lib.rt:42:5
 close-up-requires : tie.Need-close-up-requires
 close-up-requires c κs =
     let a = c .before .before .before .before .before .args in
@@ -71,11 +57,9 @@ close-up-requires c κs =
     let l : length (drop (a .i * a .width) (a .t .now)) ≡ length (a .t .now) - a .i * a .width = length-drop (a .i * a .width) (a .t .now) in
     (omega arith, rw (whole-tail (a .i * a .width) (a .t .now)) (omega arith))
 
--- src/lib.rt:32:1
 same-length : tie.Need-same-length
 same-length c = search needs
 
--- src/lib.rt:32:1
 returns-3 : tie.Need-returns-3
 returns-3 c =
     let a = c .before .before .before .before .before .before .before .before .args in

@@ -1,13 +1,9 @@
 use Rattle.desk.proofs.answers.refuse.Statement.{statement}
 use Rattle.desk.proofs.answers.refuse.Tie as tie
-use Rattle.desk.proofs.answers.refuse.Reads as reads
-use Rattle.desk.proofs.answers.refuse.Lts as lts
 
--- src/answers.rt:9:1
 returns : tie.Need-returns
 returns c = rw (c .if1 .taken)
 
--- src/answers.rt:9:1
 returns-2 : tie.Need-returns-2
 returns-2 c = rw (c .if1 .left)
 

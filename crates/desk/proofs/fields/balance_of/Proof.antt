@@ -1,18 +1,12 @@
-use mathlib.Core.Path.{_≡_, sym, _∙_}
+use mathlib.Core.Path.{sym, _∙_}
 use native.Mathlib.Omega.{arith}
-use Rattle.rules.specs.Limits.{isMember, isAsset}
 use Rattle.rules.specs.Effects.{balance}
 use Rattle.rules.specs.Facts.{Within}
 use Rattle.rules.proofs.Tests.{both, within-true}
 use borrow.Author.Needs.{needs}
 use Rattle.desk.proofs.fields.balance_of.Statement.{statement}
 use Rattle.desk.proofs.fields.balance_of.Tie as tie
-use Rattle.desk.proofs.fields.balance_of.Reads as reads
-use Rattle.desk.proofs.fields.balance_of.Lts as lts
-use Rattle.desk.proofs.fields.is_asset.Reads as is-asset-reads
-use Rattle.desk.proofs.fields.is_member.Reads as is-member-reads
 
--- src/fields.rt:47:8
 -- the test says that the member and the asset are within their limits
 limits : (c : tie.Then1) → Within 1 16 (c .before .before .before .args .m) × Within 1 8 (c .before .before .before .args .a)
 limits c =
@@ -22,40 +16,31 @@ limits c =
 is-member-requires : tie.Need-is-member-requires
 is-member-requires c κs = search needs
 
--- src/fields.rt:47:23
 is-asset-requires : tie.Need-is-asset-requires
 is-asset-requires c κs = search needs
 
--- src/fields.rt:48:20
 sub-at : tie.Need-sub-at
 sub-at c = omega (arith, limits c)
 
--- src/fields.rt:48:19
 mul-at : tie.Need-mul-at
 mul-at c = omega (arith, limits c)
 
--- src/fields.rt:48:34
 sub-at-2 : tie.Need-sub-at-2
 sub-at-2 c = omega (arith, limits c)
 
--- src/fields.rt:48:19
 add-at : tie.Need-add-at
 add-at c = omega (arith, limits c)
 
--- src/fields.rt:49:9
 mul-result : tie.Need-mul-result
 mul-result c = omega (arith, limits c)
 
--- src/fields.rt:49:9
 element-copy-out-result : tie.Need-element-copy-out-result
 element-copy-out-result c = omega (arith, limits c)
 
--- src/fields.rt:44:1
 returns : tie.Need-returns
 unfolding balance
 returns c = rw (sym (c .before .before .before .is-member .ensures), sym (c .before .before .is-asset .ensures), c .before .if1 .taken)
 
--- src/fields.rt:44:1
 returns-2 : tie.Need-returns-2
 unfolding balance
 returns-2 c = rw (sym (c .before .before .is-member .ensures), sym (c .before .is-asset .ensures), c .if1 .left)

@@ -1,15 +1,11 @@
-use mathlib.Core.Path.{_≡_, sym, _∙_}
+use mathlib.Core.Path.{sym, _∙_}
 use native.Mathlib.Omega.{arith}
 use Rattle.rules.specs.Facts.{Within}
 use Rattle.rules.proofs.Tests.{within-true}
 use borrow.Author.Needs.{needs}
 use Rattle.desk.proofs.fields.of_eight.Statement.{statement}
 use Rattle.desk.proofs.fields.of_eight.Tie as tie
-use Rattle.desk.proofs.fields.of_eight.Reads as reads
-use Rattle.desk.proofs.fields.of_eight.Lts as lts
-use Rattle.desk.proofs.fields.is_within.Reads as is-within-reads
 
--- src/fields.rt:59:8
 -- the test says that the number is within its limits
 limits : (c : tie.Then1) → Within 1 8 (c .before .before .args .i)
 limits c = within-true 1 8 _ (sym (c .before .is-within .ensures) ∙ c .if1 .taken)
@@ -17,23 +13,18 @@ limits c = within-true 1 8 _ (sym (c .before .is-within .ensures) ∙ c .if1 .ta
 is-within-requires : tie.Need-is-within-requires
 is-within-requires c κs = search needs
 
--- src/fields.rt:60:19
 sub-at : tie.Need-sub-at
 sub-at c = omega (arith, limits c)
 
--- src/fields.rt:61:9
 mul-result : tie.Need-mul-result
 mul-result c = omega (arith, limits c)
 
--- src/fields.rt:61:9
 element-copy-out-result : tie.Need-element-copy-out-result
 element-copy-out-result c = omega (arith, limits c)
 
--- src/fields.rt:56:1
 returns : tie.Need-returns
 returns c = rw (sym (c .before .before .is-within .ensures), c .before .if1 .taken)
 
--- src/fields.rt:56:1
 returns-2 : tie.Need-returns-2
 returns-2 c = rw (sym (c .before .is-within .ensures), c .if1 .left)
 

@@ -5,31 +5,25 @@ use Rattle.rules.specs.State.{Book, historyOf}
 use Rattle.rules.specs.Frame.{inFrame}
 use Rattle.rules.specs.History.{historyInFrame}
 use Rattle.rules.specs.Answer.{bookOf}
+use Rattle.frames.specs.Parts.{deskWith}
 use Rattle.records.proofs.Counting.{can-work}
 use Rattle.history.proofs.Traced.{trace-told}
 use borrow.Author.Needs.{needs}
 use Rattle.history.proofs.refusals.trace_reply.Statement.{statement}
 use Rattle.history.proofs.refusals.trace_reply.Tie as tie
-use Rattle.history.proofs.refusals.trace_reply.Reads as reads
-use Rattle.history.proofs.refusals.trace_reply.Lts as lts
-use Rattle.desk.proofs.answers.refuse.Reads as refuse-reads
-use Rattle.records.proofs.book_in_frame.Reads as book-in-frame-reads
-use Rattle.history.proofs.replay.payment_at.Reads as payment-at-reads
 
 -- the book that came
 book : tie.Start → Book
-book c = bookOf (c .args .d) (c .args .inbox .now) (c .args .outbox .now) (c .args .history .now)
+book c = bookOf (deskWith (c .args .balances .now) (c .args .holders .now) (c .args .lifetime .now) (c .args .settled .now) (c .args .counts)) (c .args .inbox .now) (c .args .outbox .now) (c .args .history .now)
 
 -- past the first test it is in frame, its history too
 framed : (c : tie.Else1) → inFrame (book (c .before .before .before .before .before)) && historyInFrame (historyOf (book (c .before .before .before .before .before))) ≡ true
 unfolding book
 framed c = sym (c .before .book-in-frame .ensures) ∙ not-false (c .before .book-in-frame .result) (c .if1 .left)
 
--- src/refusals.rt:65:9
 book-in-frame-requires : tie.Need-book-in-frame-requires
 book-in-frame-requires c κs = search needs
 
--- src/refusals.rt:67:9
 returns : tie.Need-returns
 unfolding book
 returns c =
@@ -37,20 +31,16 @@ returns c =
     let e : inFrame (book (c .before .before .before .before .before)) && historyInFrame (historyOf (book (c .before .before .before .before .before))) ≡ mathlib.Core.Bool.false = sym (c .before .book-in-frame .ensures) ∙ not-true (c .before .book-in-frame .result) (c .if1 .taken) in
     rw e at (trace-told (book (c .before .before .before .before .before)) (a .rows) (a .places) (a .n))
 
--- src/refusals.rt:69:9
 payment-at-requires : tie.Need-payment-at-requires
 unfolding book
 payment-at-requires c κs = can-work (book (c .before .before .before .before .before)) (framed c) .lie
 
--- src/refusals.rt:70:9
 refuse-requires : tie.Need-refuse-requires
 refuse-requires c κs = search needs
 
--- src/refusals.rt:71:5
 refuse-requires-2 : tie.Need-refuse-requires-2
 refuse-requires-2 c κs = search needs
 
--- src/refusals.rt:54:1
 returns-2 : tie.Need-returns-2
 unfolding book
 returns-2 c =

@@ -1,7 +1,7 @@
 -- `history::trace::trace` meets its contract: a walk of its MIR, by hand. Where it is refused it returns at once; else an array of lots is made in a local, lent to `traced` and freed (`TraceCalls.antt`).
 -- Assumes nothing.
 use mathlib.Core.Path.{_≡_, refl, sym, _∙_}
-use Prim.Native.Nat.{ℕ, _<_, _^_, _-_}
+use Prim.Native.Nat.{ℕ, _<_, _^_}
 use mathlib.Core.List.{List, [], _∷_}
 use lib.ListN.{length, replicate}
 use lib.Dec.{lit<, leb→le}
@@ -60,20 +60,20 @@ use Rattle.rules.proofs.answers.Answer.Laws as An′
 use Rattle.desk.specs.Parts.{isDone}
 use Rattle.history.specs.Tracing.{traceOutcomeOf}
 use Rattle.history.proofs.Traced.{trace-refused, few-records, can-trace, trace-done}
-use Rattle.history.proofs.Loop.{big-lit}
-use Rattle.history.proofs.Locals.{local, part, slice-at}
-use Rattle.history.proofs.Values.{R, machOf, no-number-is, zeros-is, Desks, machK, Nonces, machN, Answers, machA, at-list, sv, places}
+use Rattle.takings.proofs.Loop.{big-lit}
+use Rattle.takings.proofs.Locals.{local, part, slice-at}
+use Rattle.takings.proofs.Values.{R, machOf, no-number-is, zeros-is, Desks, machK, Nonces, machN, Answers, machA, at-list, sv, places}
 use Rattle.history.proofs.Table.{table-is}
-use Rattle.history.proofs.TraceCalls.{TraceReply, refuses, IsDone, asks-done, Traced, traces-in}
-use Rattle.history.proofs.refusals.trace_reply.Symbol as trace-reply-def
-use Rattle.history.proofs.refusals.trace_reply.Symbol.{name as #trace-reply}
-use Rattle.history.proofs.refusals.trace_reply.Met as trace-reply-thm
+use Rattle.history.proofs.TraceCalls.{ReplyTo, refuses, IsDone, asks-done, Traced, traces-in}
+use Rattle.history.proofs.refusals.reply_to.Symbol as reply-to-def
+use Rattle.history.proofs.refusals.reply_to.Symbol.{name as #reply-to}
+use Rattle.history.proofs.refusals.reply_to.Met as reply-to-thm
 use Rattle.desk.proofs.answers.is_done.Symbol as is-done-def
 use Rattle.desk.proofs.answers.is_done.Symbol.{name as #is-done}
 use Rattle.desk.proofs.answers.is_done.Met as is-done-thm
-use Rattle.history.proofs.replay.traced.Symbol as traced-def
-use Rattle.history.proofs.replay.traced.Symbol.{name as #traced}
-use Rattle.history.proofs.replay.traced.Met as traced-thm
+use Rattle.replays.proofs.traced.Symbol as traced-def
+use Rattle.replays.proofs.traced.Symbol.{name as #traced}
+use Rattle.replays.proofs.traced.Met as traced-thm
 use Rattle.history.proofs.trace.trace.Key.{name as #trace}
 use Rattle.history.proofs.trace.trace as f
 use Rattle.history.proofs.trace.trace.Statement as stated
@@ -152,7 +152,7 @@ module _ {M : Type 1} (𝓤 : URA M) (H : Heap 𝓤) (A : Atoms 𝓤) (W : Given
       move ! (3 ∷ 0 ∷ []) $ fjoin ! $ move ! (2 ∷ 0 ∷ []) $ fjoin ! $ move ! (1 ∷ 0 ∷ []) $ fjoin ! $ owned ! Desks (Is Desks) ((LL.makes Dk.the-type Dk′.the-plain) 𝓤 H A) dk _ isdk $
       fjoin ! $ frame ! $ owned ! Answers (Is Answers) ((LE.makes An.the-type An′.the-plain) 𝓤 H A) r _ isr $ done !
 
-  module _ (𝓣 : Tables 𝓤 H) (known-reply : Triple 𝓤 (𝓣 .C #trace-reply) (TraceReply 𝓤 H A mem run)) (known-done : Triple 𝓤 (𝓣 .C #is-done) (IsDone 𝓤 H A mem run)) (known-traced : Triple 𝓤 (𝓣 .C #traced) (Traced 𝓤 H A mem run)) where
+  module _ (𝓣 : Tables 𝓤 H) (known-reply : Triple 𝓤 (𝓣 .C #reply-to) (ReplyTo 𝓤 H A mem run)) (known-done : Triple 𝓤 (𝓣 .C #is-done) (IsDone 𝓤 H A mem run)) (known-traced : Triple 𝓤 (𝓣 .C #traced) (Traced 𝓤 H A mem run)) where
     walk : Is Desks dk (machK dk ∷ []) → Room u64 ninb → Room u64 noutb → Room u64 nhist → Room R nwork → Room R nout → Is Nonces non (machN non ∷ []) → ent 𝓤 (onEntry 𝓤 H A f.signature (κinb, (κoutb, (κhist, (κwork, (κout, tt))))) (qinb, (qoutb, (qhist, (qwork, (qout, tt))))) a at) (WpFn 𝓤 H (𝓣 .C) (𝓣 .Λ) code.function (machK dk ∷ sv binb oinb ninb ∷ sv boutb ooutb noutb ∷ sv bhist ohist nhist ∷ sv bwork owork nwork ∷ sv bout oout nout ∷ machN non ∷ []) Post)
     walk isdk roominb roomoutb roomhist roomwork roomout isnon =
         qed W ((‵ (flft κinb qinb) ⊛ (‵ (flft κoutb qoutb) ⊛ (‵ (flft κhist qhist) ⊛ (‵ (flft κwork qwork) ⊛ (‵ (flft κout qout) ⊛ ‵ ftrue))))) ∷ ‵ (owns (Desks ∷ ShrSlice (named 0) κinb u64 ∷ ShrSlice (named 1) κoutb u64 ∷ ShrSlice (named 2) κhist u64 ∷ MutSlice (named 3) κwork R ∷ MutSlice (named 4) κout R ∷ Nonces ∷ []) a at) ∷ []) ∵
@@ -257,7 +257,7 @@ module _ {M : Type 1} (𝓤 : URA M) (H : Heap 𝓤) (A : Atoms 𝓤) (W : Given
         by ! (exits isdk isnon (Answer.Traced count) (traced-is count fits) w′ samew o′ sameo (trace-done (bookOf dk inbs outbs hists) works outs non reply tells well count w′ o′ t))))
         ))))))))))))))))))))))))))))))))))
 
-module _ {M : Type 1} (𝓤 : URA M) (H : Heap 𝓤) (A : Atoms 𝓤) (W : Given 𝓤 H A) (mem : Memory → SProp 𝓤) (run : Routine → Fun 𝓤) (𝓣 : Tables 𝓤 H) (known-reply : Triple 𝓤 (𝓣 .C #trace-reply) (TraceReply 𝓤 H A mem run)) (known-done : Triple 𝓤 (𝓣 .C #is-done) (IsDone 𝓤 H A mem run)) (known-traced : Triple 𝓤 (𝓣 .C #traced) (Traced 𝓤 H A mem run)) where
+module _ {M : Type 1} (𝓤 : URA M) (H : Heap 𝓤) (A : Atoms 𝓤) (W : Given 𝓤 H A) (mem : Memory → SProp 𝓤) (run : Routine → Fun 𝓤) (𝓣 : Tables 𝓤 H) (known-reply : Triple 𝓤 (𝓣 .C #reply-to) (ReplyTo 𝓤 H A mem run)) (known-done : Triple 𝓤 (𝓣 .C #is-done) (IsDone 𝓤 H A mem run)) (known-traced : Triple 𝓤 (𝓣 .C #traced) (Traced 𝓤 H A mem run)) where
   trace-walks : Walks 𝓤 H A f.ended stayed (WpFn 𝓤 H (𝓣 .C) (𝓣 .Λ) code.function) (f.clauses 𝓤 H A mem run)
   trace-walks = walked 𝓤 H A f.ended stayed (f.clauses 𝓤 H A mem run) (WpFn 𝓤 H (𝓣 .C) (𝓣 .Λ) code.function) (λ κs. (LL.vals Dk.the-type Dk′.the-laws, (slice-vals, (slice-vals, (slice-vals, (slice-vals, (slice-vals, (LL.vals Nn.the-type Nn′.the-laws, tt)))))))) (λ κs. (LL.tells Dk.the-type Dk′.the-laws, (shr-slice-tells (named 0) (κs .0) u64, (shr-slice-tells (named 1) (κs .1 .0) u64, (shr-slice-tells (named 2) (κs .1 .1 .0) u64, (mut-slice-tells (named 3) (κs .1 .1 .1 .0) T.the-row, (mut-slice-tells (named 4) (κs .1 .1 .1 .1 .0) T.the-row, (LL.tells Nn.the-type Nn′.the-laws, tt))))))))
       (λ κs qs bounds a g are. via 𝓤 _ (fst∗ 𝓤 _ (emp 𝓤))
@@ -274,6 +274,6 @@ trace-spec 𝓤 H 𝓜 𝓖 𝓡 =
     entered 𝓤 H (tripleOf 𝓤 H (𝓖 .A) f.signature (f.spec 𝓤 H (𝓖 .A) (𝓜 .mem) (𝓡 .run)))
     (tables 𝓤 H 𝓜 𝓡 code.env .C) (tables 𝓤 H 𝓜 𝓡 code.env .Λ) #trace code.function (code.unfolded 𝓤 H 𝓜 𝓡)
     (trace-meets 𝓤 H (𝓖 .A) (givenOf 𝓤 H 𝓜 𝓖) (𝓜 .mem) (𝓡 .run) (tablesOf 𝓤 H 𝓜 (tables 𝓤 H 𝓜 𝓡 code.env))
-    (cited 𝓤 H (TraceReply 𝓤 H (𝓖 .A) (𝓜 .mem) (𝓡 .run)) 𝓜 𝓡 code.env #trace-reply trace-reply-def.routine code.calls-history·refusals·trace-reply (trace-reply-thm.met 𝓤 H 𝓜 𝓖 𝓡))
+    (cited 𝓤 H (ReplyTo 𝓤 H (𝓖 .A) (𝓜 .mem) (𝓡 .run)) 𝓜 𝓡 code.env #reply-to reply-to-def.routine code.calls-history·refusals·reply-to (reply-to-thm.met 𝓤 H 𝓜 𝓖 𝓡))
     (cited 𝓤 H (IsDone 𝓤 H (𝓖 .A) (𝓜 .mem) (𝓡 .run)) 𝓜 𝓡 code.env #is-done is-done-def.routine code.calls-desk·answers·is-done (is-done-thm.met 𝓤 H 𝓜 𝓖 𝓡))
-    (cited 𝓤 H (Traced 𝓤 H (𝓖 .A) (𝓜 .mem) (𝓡 .run)) 𝓜 𝓡 code.env #traced traced-def.routine code.calls-history·replay·traced (traced-thm.met 𝓤 H 𝓜 𝓖 𝓡)))
+    (cited 𝓤 H (Traced 𝓤 H (𝓖 .A) (𝓜 .mem) (𝓡 .run)) 𝓜 𝓡 code.env #traced traced-def.routine code.calls-replays·traced (traced-thm.met 𝓤 H 𝓜 𝓖 𝓡)))

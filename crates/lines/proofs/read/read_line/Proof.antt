@@ -4,7 +4,7 @@ use native.Mathlib.Omega.{arith}
 use lib.ListN.{length-take}
 use Rattle.rules.specs.Lists.{any, bytes}
 use Rattle.rules.specs.Lines.{forms, depositForm, claimForm, transferForm, withdrawForm, sendForm, settleForm, grantForm, signForm, traceForm}
-use Rattle.lines.proofs.FieldLaws.{end-within}
+use Rattle.fields.proofs.FieldLaws.{end-within}
 use Rattle.lines.proofs.LineLaws.{line-long, line-form, line-none, deposit-alone, claim-alone, transfer-alone, withdraw-alone, send-alone, settle-alone, grant-alone, sign-alone, trace-alone}
 use borrow.Author.Needs.{needs}
 use Rattle.lines.proofs.read.read_line.Statement.{statement}

@@ -4,46 +4,34 @@ use Rattle.records.proofs.Following.{balance-in}
 use borrow.Author.Needs.{needs}
 use Rattle.records.proofs.frame.credited.Statement.{statement}
 use Rattle.records.proofs.frame.credited.Tie as tie
-use Rattle.records.proofs.frame.credited.Reads as reads
-use Rattle.records.proofs.frame.credited.Lts as lts
 
--- src/frame.rt:106:16
 sub-at : tie.Need-sub-at
 sub-at c = search needs
 
--- src/frame.rt:106:15
 mul-at : tie.Need-mul-at
 mul-at c = search needs
 
--- src/frame.rt:106:30
 sub-at-2 : tie.Need-sub-at-2
 sub-at-2 c = search needs
 
--- src/frame.rt:106:15
 add-at : tie.Need-add-at
 add-at c = search needs
 
--- src/frame.rt:107:15
 mul-old : tie.Need-mul-old
 mul-old c = search needs
 
--- src/frame.rt:107:15
 element-copy-out-old : tie.Need-element-copy-out-old
 element-copy-out-old c = search needs
 
--- src/frame.rt:108:20
 add-balances : tie.Need-add-balances
 add-balances c = omega (arith, c .before .pre, balance-in (c .before .args .balances .now) (c .before .args .m) (c .before .args .a) (c .before .pre .0))
 
--- src/frame.rt:108:5
 mul-balances : tie.Need-mul-balances
 mul-balances c = search needs
 
--- src/frame.rt:108:5
 element-write-balances : tie.Need-element-write-balances
 element-write-balances c = search needs
 
--- src/frame.rt:101:1
 returns : tie.Need-returns
 unfolding credit
 returns c = rw (balance-in (c .before .args .balances .now) (c .before .args .m) (c .before .args .a) (c .before .pre .0))

@@ -12,11 +12,6 @@ use Rattle.records.proofs.Following.{HistoryFrom, history-count, histor
 use borrow.Author.Needs.{needs}
 use Rattle.records.proofs.frame.history_in_frame.Statement.{statement}
 use Rattle.records.proofs.frame.history_in_frame.Tie as tie
-use Rattle.records.proofs.frame.history_in_frame.Reads as reads
-use Rattle.records.proofs.frame.history_in_frame.Lts as lts
-use Rattle.records.proofs.frame.fits.Reads as fits-reads
-use Rattle.records.proofs.frame.follow.Reads as follow-reads
-use Rattle.records.proofs.record_at.Reads as record-at-reads
 
 abbrev Inv-loop : tie.InvT-loop
 Inv-loop history records balances₀ holders₀ i₀ balances holders i = (i ≤ records) × (records ≤ 1024) × (records * 5 ≤ length history) × (allUpTo (i * ceiling) balances ≡ true) × HistoryFrom history records (standing balances holders) i
@@ -24,49 +19,39 @@ Inv-loop history records balances₀ holders₀ i₀ balances holders i = (i ≤
 abbrev μ-loop : tie.MeasureT-loop
 μ-loop history records balances₀ holders₀ i₀ balances holders i = records - i
 
--- src/frame.rt:26:9
 returns : tie.Need-returns Inv-loop μ-loop
 returns c = history-count _ _ (c .if1 .taken)
 
--- src/frame.rt:29:9
 returns-2 : tie.Need-returns-2 Inv-loop μ-loop
 returns-2 c = history-size _ _ (c .before .if1 .left) (omega arith)
 
--- src/frame.rt:37:5
 loop-holds : tie.Need-loop-holds Inv-loop μ-loop
 unfolding emptyStanding emptyState
 loop-holds c = (search needs, search needs, omega arith, low-first, history-none _ _ (omega arith) (omega arith) _ refl)
 
--- src/frame.rt:38:13
 record-at-requires : tie.Need-record-at-requires Inv-loop μ-loop
 record-at-requires c κs = omega arith
 
--- src/frame.rt:39:13
 fits-requires : tie.Need-fits-requires Inv-loop μ-loop
 fits-requires c κs = search needs
 
--- src/frame.rt:40:13
 returns-3 : tie.Need-returns-3 Inv-loop μ-loop
 returns-3 c =
     let l = c .before .before .before .before .before .before .loop in
     let a = c .before .before .before .before .before .before .before .before .before .before .args in
     history-fails (a .history .now) (a .records) (standing (l .balances) (l .holders)) (l .i) (omega arith) (l .inv .4) (ap (fits (standing (l .balances) (l .holders))) (sym (c .before .before .before .before .record-at .ensures)) ∙ sym (c .before .fits2 .ensures) ∙ not-true (c .before .fits2 .result) (c .if3 .taken))
 
--- src/frame.rt:42:9
 follow-requires : tie.Need-follow-requires Inv-loop μ-loop
 follow-requires c κs =
     let l = c .before .before .before .before .before .before .before .before .loop in
     can-follow (l .i) (l .balances) (l .holders) (c .before .before .before .before .before .before .record-at .result) (omega arith) (sym (c .before .before .before .fits2 .ensures) ∙ not-false (c .before .before .before .fits2 .result) (c .before .before .if3 .left)) (l .inv .3)
 
--- src/frame.rt:43:9
 add-i : tie.Need-add-i Inv-loop μ-loop
 add-i c = search needs
 
--- src/frame.rt:37:5
 loop-less : tie.Need-loop-less Inv-loop μ-loop
 loop-less c = search needs
 
--- src/frame.rt:37:5
 loop-again : tie.Need-loop-again Inv-loop μ-loop
 loop-again c =
     let l = c .before .before .before .before .before .before .before .before .before .loop in
@@ -74,7 +59,6 @@ loop-again c =
     let f : fits (standing (l .balances) (l .holders)) (c .before .before .before .before .before .before .before .record-at .result) ≡ true = sym (c .before .before .before .before .fits2 .ensures) ∙ not-false (c .before .before .before .before .fits2 .result) (c .before .before .before .if3 .left) in
     (search needs, l .inv .1, l .inv .2, rw (ap (λ (s : Replayed). s .balances) (c .follow .ensures)) (low-next (l .i) (standing (l .balances) (l .holders)) (c .before .before .before .before .before .before .before .record-at .result) f (l .inv .3)), rw (c .follow .ensures, c .before .before .before .before .before .before .before .record-at .ensures) (history-goes (a .history .now) (a .records) (standing (l .balances) (l .holders)) (l .i) (omega arith) (l .inv .4) (ap (fits (standing (l .balances) (l .holders))) (sym (c .before .before .before .before .before .before .before .record-at .ensures)) ∙ f)))
 
--- src/frame.rt:22:1
 returns-4 : tie.Need-returns-4 Inv-loop μ-loop
 returns-4 c =
     let l = c .before .loop in

@@ -23,7 +23,6 @@ abbrev worked-out-below : ℕ → In 1 worked-out-kinds.ps
 worked-out-below t =
     and 1 worked-out-kinds.ps (falls 1 worked-out-kinds.ps _<_ μ-worked-out t) worked-out.Pre
 
--- src/origin.rt:51:9
 worked-out-returns : (t : ℕ) → worked-out-lts.Need-returns (
   worked-out-below t,
   worked-out.Post,
@@ -34,7 +33,6 @@ worked-out-returns : (t : ℕ) → worked-out-lts.Need-returns (
 ) (worked-out-at t) worked-out.Post
 worked-out-returns t c = nothing-left _ _ _ _ (c .if1 .taken)
 
--- src/origin.rt:53:38
 worked-out-sub-worked-out : (t : ℕ) → worked-out-lts.Need-sub-worked-out (
   worked-out-below t,
   worked-out.Post,
@@ -45,7 +43,6 @@ worked-out-sub-worked-out : (t : ℕ) → worked-out-lts.Need-sub-worked-out (
 ) (worked-out-at t) worked-out.Post
 worked-out-sub-worked-out t c = omega arith
 
--- src/origin.rt:53:9
 worked-out-worked-out-requires : (t : ℕ) → worked-out-lts.Need-worked-out-requires (
   worked-out-below t,
   worked-out.Post,
@@ -58,7 +55,6 @@ worked-out-worked-out-requires t c κs =
     let s = c .before .before in
     (omega (arith, s .pre .0, c .if1 .left), can-go-back (s .args .history .now) (s .args .left) (s .pre .1) (omega (arith, c .if1 .left)))
 
--- src/origin.rt:54:32
 worked-out-sub-record-at : (t : ℕ) → worked-out-lts.Need-sub-record-at (
   worked-out-below t,
   worked-out.Post,
@@ -69,7 +65,6 @@ worked-out-sub-record-at : (t : ℕ) → worked-out-lts.Need-sub-record-at (
 ) (worked-out-at t) worked-out.Post
 worked-out-sub-record-at t c = omega (arith, c .before .if1 .left)
 
--- src/origin.rt:54:13
 worked-out-record-at-requires : (t : ℕ) → worked-out-lts.Need-record-at-requires (
   worked-out-below t,
   worked-out.Post,
@@ -80,7 +75,6 @@ worked-out-record-at-requires : (t : ℕ) → worked-out-lts.Need-record-at-requ
 ) (worked-out-at t) worked-out.Post
 worked-out-record-at-requires t c κs = omega (arith, c .before .if1 .left, c .before .before .before .pre .1 .lie)
 
--- src/origin.rt:54:5
 worked-out-counted-requires : (t : ℕ) → worked-out-lts.Need-counted-requires (
   worked-out-below t,
   worked-out.Post,
@@ -93,7 +87,6 @@ worked-out-counted-requires t c κs =
     let s = c .before .before .before .before in
     rw (c .record-at .ensures, c .before .worked-out .ensures) (can-count (s .args .history .now) (s .args .left) (s .pre .1) (omega (arith, c .before .before .if1 .left)) (s .args .member) (s .args .asset))
 
--- src/origin.rt:46:1
 worked-out-returns-2 : (t : ℕ) → worked-out-lts.Need-returns-2 (
   worked-out-below t,
   worked-out.Post,

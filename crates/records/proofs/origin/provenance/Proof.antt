@@ -1,72 +1,68 @@
 use mathlib.Core.Bool.{true, _&&_}
-use Rattle.rules.specs.Frame.{inFrame}
-use Rattle.rules.specs.State.{historyOf}
-use Rattle.rules.specs.History.{historyInFrame}
-use mathlib.Core.Path.{_≡_, sym, _∙_}
+use mathlib.Core.Path.{_≡_, sym, ap, _∙_}
 use borrow.Author.Tests.{not-true, not-false}
-use Rattle.rules.specs.State.{Book}
+use Rattle.rules.specs.State.{Book, historyOf}
+use Rattle.rules.specs.Frame.{inFrame}
+use Rattle.rules.specs.History.{historyInFrame}
 use Rattle.rules.specs.Answer.{bookOf}
+use Rattle.frames.specs.Parts.{deskWith}
 use Rattle.records.proofs.Counting.{origin-book, origin-member, origin-asset, origin-amount, can-work}
 use borrow.Author.Needs.{needs}
 use Rattle.records.proofs.origin.provenance.Statement.{statement}
 use Rattle.records.proofs.origin.provenance.Tie as tie
-use Rattle.records.proofs.origin.provenance.Reads as reads
-use Rattle.records.proofs.origin.provenance.Lts as lts
-use Rattle.desk.proofs.fields.is_asset.Reads as is-asset-reads
-use Rattle.desk.proofs.fields.is_member.Reads as is-member-reads
-use Rattle.records.proofs.origin.worked_out.Reads as worked-out-reads
-use Rattle.records.proofs.book_in_frame.Reads as book-in-frame-reads
 
 -- the book that came
 book : tie.Start → Book
-book c = bookOf (c .args .d) (c .args .inbox .now) (c .args .outbox .now) (c .args .history .now)
+book c = bookOf (c .args .t1) (c .args .inbox .now) (c .args .outbox .now) (c .args .history .now)
+
+-- the test, told of the lent lists and the counts, is that book's
+tested : (c : tie.After-book-in-frame) → c .book-in-frame .result ≡ inFrame (book (c .before .before .before .before .before .before .before .before .before .before)) && historyInFrame (historyOf (book (c .before .before .before .before .before .before .before .before .before .before)))
+unfolding book
+tested c =
+    let a = c .before .before .before .before .before .before .before .before .before .before .args in
+    c .book-in-frame .ensures ∙ ap (λ k. let b : Book = bookOf (deskWith (a .t1 .balances) (a .t1 .holders) (a .t1 .lifetime) (a .t1 .settled) k) (a .inbox .now) (a .outbox .now) (a .history .now) in inFrame b && historyInFrame (historyOf b)) (c .before .before .before .before .before .before .counts-of .ensures)
 
 -- past the first test it is in frame, its history too
-framed : (c : tie.Else1) → inFrame (book (c .before .before .before .before .before)) && historyInFrame (historyOf (book (c .before .before .before .before .before))) ≡ true
-unfolding book
-framed c = sym (c .before .book-in-frame .ensures) ∙ not-false (c .before .book-in-frame .result) (c .if1 .left)
+framed : (c : tie.Else1) → inFrame (book (c .before .before .before .before .before .before .before .before .before .before .before)) && historyInFrame (historyOf (book (c .before .before .before .before .before .before .before .before .before .before .before))) ≡ true
+framed c = sym (tested (c .before)) ∙ not-false (c .before .book-in-frame .result) (c .if1 .left)
 
--- src/origin.rt:30:9
+counts-of-requires : tie.Need-counts-of-requires
+counts-of-requires c κs = search needs
+
 book-in-frame-requires : tie.Need-book-in-frame-requires
 book-in-frame-requires c κs = search needs
 
--- src/origin.rt:32:9
 returns : tie.Need-returns
 unfolding book
-returns c = origin-book (book (c .before .before .before .before .before)) (c .before .before .before .before .before .args .member) (c .before .before .before .before .before .args .asset) (sym (c .before .book-in-frame .ensures) ∙ not-true (c .before .book-in-frame .result) (c .if1 .taken))
+returns c = origin-book (book (c .before .before .before .before .before .before .before .before .before .before .before)) (c .before .before .before .before .before .before .before .before .before .before .before .args .member) (c .before .before .before .before .before .before .before .before .before .before .before .args .asset) (sym (tested (c .before)) ∙ not-true (c .before .book-in-frame .result) (c .if1 .taken))
 
--- src/origin.rt:34:9
 is-member-requires : tie.Need-is-member-requires
 is-member-requires c κs = search needs
 
--- src/origin.rt:36:9
 returns-2 : tie.Need-returns-2
 unfolding book
-returns-2 c = origin-member (book (c .before .before .before .before .before .before .before)) (c .before .before .before .before .before .before .before .args .member) (c .before .before .before .before .before .before .before .args .asset) (framed (c .before .before)) (sym (c .before .is-member .ensures) ∙ not-true (c .before .is-member .result) (c .if2 .taken))
+returns-2 c = origin-member (book (c .before .before .before .before .before .before .before .before .before .before .before .before .before)) (c .before .before .before .before .before .before .before .before .before .before .before .before .before .args .member) (c .before .before .before .before .before .before .before .before .before .before .before .before .before .args .asset) (framed (c .before .before)) (sym (c .before .is-member .ensures) ∙ not-true (c .before .is-member .result) (c .if2 .taken))
 
--- src/origin.rt:38:9
 is-asset-requires : tie.Need-is-asset-requires
 is-asset-requires c κs = search needs
 
--- src/origin.rt:40:9
 returns-3 : tie.Need-returns-3
 unfolding book
-returns-3 c = origin-asset (book (c .before .before .before .before .before .before .before .before .before)) (c .before .before .before .before .before .before .before .before .before .args .member) (c .before .before .before .before .before .before .before .before .before .args .asset) (framed (c .before .before .before .before)) (sym (c .before .before .before .is-member .ensures) ∙ not-false (c .before .before .before .is-member .result) (c .before .before .if2 .left)) (sym (c .before .is-asset .ensures) ∙ not-true (c .before .is-asset .result) (c .if3 .taken))
+returns-3 c = origin-asset (book (c .before .before .before .before .before .before .before .before .before .before .before .before .before .before .before)) (c .before .before .before .before .before .before .before .before .before .before .before .before .before .before .before .args .member) (c .before .before .before .before .before .before .before .before .before .before .before .before .before .before .before .args .asset) (framed (c .before .before .before .before)) (sym (c .before .before .before .is-member .ensures) ∙ not-false (c .before .before .before .is-member .result) (c .before .before .if2 .left)) (sym (c .before .is-asset .ensures) ∙ not-true (c .before .is-asset .result) (c .if3 .taken))
 
--- src/origin.rt:42:20
 worked-out-requires : tie.Need-worked-out-requires
 unfolding book
-worked-out-requires c κs = can-work (book (c .before .before .before .before .before .before .before .before .before)) (framed (c .before .before .before .before))
+worked-out-requires c κs = can-work (book (c .before .before .before .before .before .before .before .before .before .before .before .before .before .before .before)) (framed (c .before .before .before .before))
 
--- src/origin.rt:20:1
 returns-4 : tie.Need-returns-4
 unfolding book
-returns-4 c = origin-amount (book (c .before .before .before .before .before .before .before .before .before .before)) (c .before .before .before .before .before .before .before .before .before .before .args .member) (c .before .before .before .before .before .before .before .before .before .before .args .asset) (framed (c .before .before .before .before .before)) (sym (c .before .before .before .before .is-member .ensures) ∙ not-false (c .before .before .before .before .is-member .result) (c .before .before .before .if2 .left)) (sym (c .before .before .is-asset .ensures) ∙ not-false (c .before .before .is-asset .result) (c .before .if3 .left)) (c .worked-out .result) (c .worked-out .ensures)
+returns-4 c = origin-amount (book (c .before .before .before .before .before .before .before .before .before .before .before .before .before .before .before .before)) (c .before .before .before .before .before .before .before .before .before .before .before .before .before .before .before .before .args .member) (c .before .before .before .before .before .before .before .before .before .before .before .before .before .before .before .before .args .asset) (framed (c .before .before .before .before .before)) (sym (c .before .before .before .before .is-member .ensures) ∙ not-false (c .before .before .before .before .is-member .result) (c .before .before .before .if2 .left)) (sym (c .before .before .is-asset .ensures) ∙ not-false (c .before .before .is-asset .result) (c .before .if3 .left)) (c .worked-out .result) (c .worked-out .ensures)
 
 pub provenance-spec : {M : Type 1} → statement M
 provenance-spec =
     tie.close
     (tie.spec
+    counts-of-requires
     book-in-frame-requires
     returns
     is-member-requires

@@ -1,6 +1,6 @@
 use Prim.Native.Nat.{ℕ, _+_, _-_, _≤_}
 use mathlib.Core.Path.{_≡_, sym, ap, _∙_}
-use mathlib.Core.Bool.{Bool, true, false, not}
+use mathlib.Core.Bool.{true, not}
 use native.Mathlib.Omega.{arith}
 use lib.ListN.{length, take, drop}
 use Rattle.rules.specs.Lists.{all}
@@ -9,9 +9,6 @@ use Rattle.runner.proofs.Whole.{none-yet, none-block}
 use borrow.Author.Needs.{needs}
 use Rattle.runner.proofs.feed.blocks_without.Statement.{statement}
 use Rattle.runner.proofs.feed.blocks_without.Tie as tie
-use Rattle.runner.proofs.feed.blocks_without.Reads as reads
-use Rattle.runner.proofs.feed.blocks_without.Lts as lts
-use Rattle.runner.proofs.feed.has_feed.Reads as has-feed-reads
 
 abbrev Inv-loop : tie.InvT-loop
 Inv-loop s i₀ i = (i ≤ length s) × (all noFeed (take i s) ≡ true)
@@ -19,47 +16,36 @@ Inv-loop s i₀ i = (i ≤ length s) × (all noFeed (take i s) ≡ true)
 abbrev μ-loop : tie.MeasureT-loop
 μ-loop s i₀ i = length s - i
 
--- src/feed.rt:92:5
 loop-holds : tie.Need-loop-holds Inv-loop μ-loop
 loop-holds c = (omega arith, none-yet (c .before .args .s .now))
 
--- src/feed.rt:92:17
 sub-loop : tie.Need-sub-loop Inv-loop μ-loop
 sub-loop c = search needs
 
--- src/feed.rt:93:27
 add-has-feed : tie.Need-add-has-feed Inv-loop μ-loop
 add-has-feed c = search needs
 
--- src/feed.rt:93:21
 sub-has-feed : tie.Need-sub-has-feed Inv-loop μ-loop
 sub-has-feed c = search needs
 
--- src/feed.rt:93:21
 part-has-feed-start : tie.Need-part-has-feed-start Inv-loop μ-loop
 part-has-feed-start c = search needs
 
--- src/feed.rt:93:21
 part-has-feed-end : tie.Need-part-has-feed-end Inv-loop μ-loop
 part-has-feed-end c = search needs
 
--- src/feed.rt:93:12
 has-feed-requires : tie.Need-has-feed-requires Inv-loop μ-loop
 has-feed-requires c κs = search needs
 
--- src/feed.rt:94:13
 returns : tie.Need-returns Inv-loop μ-loop
 returns c = (c .before .before .before .before .loop .inv .0, c .before .before .before .before .loop .inv .1)
 
--- src/feed.rt:96:9
 add-i : tie.Need-add-i Inv-loop μ-loop
 add-i c = search needs
 
--- src/feed.rt:92:5
 loop-less : tie.Need-loop-less Inv-loop μ-loop
 loop-less c = search needs
 
--- src/feed.rt:92:5
 loop-again : tie.Need-loop-again Inv-loop μ-loop
 loop-again c =
     let a = c .before .before .before .before .before .before .args in
@@ -69,7 +55,6 @@ loop-again c =
     let f : all noFeed (take n (drop (v .i) (a .s .now))) ≡ true = sym (c .before .has-feed .ensures) ∙ ap not (c .if1 .left) in
     (search needs, ap (λ (k : ℕ). all noFeed (take k (a .s .now))) (sym e) ∙ none-block (a .s .now) (v .i) n (v .inv .1) f)
 
--- src/feed.rt:87:1
 returns-2 : tie.Need-returns-2 Inv-loop μ-loop
 returns-2 c = (c .before .loop .inv .0, c .before .loop .inv .1)
 

@@ -1,39 +1,27 @@
-use mathlib.Core.Path.{sym}
-use Rattle.lines.proofs.FieldLaws.{from-on}
+use Rattle.fields.proofs.FieldLaws.{from-on}
 use Rattle.runner.proofs.Whole.{feed-further}
 use borrow.Author.Needs.{needs}
 use Rattle.runner.proofs.feed.feed_at.Statement.{statement}
 use Rattle.runner.proofs.feed.feed_at.Tie as tie
-use Rattle.runner.proofs.feed.feed_at.Reads as reads
-use Rattle.runner.proofs.feed.feed_at.Lts as lts
-use Rattle.runner.proofs.feed.blocks_without.Reads as blocks-without-reads
-use Rattle.runner.proofs.feed.first_feed.Reads as first-feed-reads
 
--- src/feed.rt:68:9
 blocks-without-requires : tie.Need-blocks-without-requires
 blocks-without-requires c κs = search needs
 
--- src/feed.rt:69:23
 sub-first-feed : tie.Need-sub-first-feed
 sub-first-feed c = search needs
 
--- src/feed.rt:69:23
 part-first-feed-start : tie.Need-part-first-feed-start
 part-first-feed-start c = search needs
 
--- src/feed.rt:69:23
 part-first-feed-end : tie.Need-part-first-feed-end
 part-first-feed-end c = search needs
 
--- src/feed.rt:69:12
 first-feed-requires : tie.Need-first-feed-requires
 first-feed-requires c κs = search needs
 
--- src/feed.rt:69:5
 add-result : tie.Need-add-result
 add-result c = search needs
 
--- src/feed.rt:65:1
 returns : tie.Need-returns
 returns c =
     let s = c .before .before .before .before .args .s .now in

@@ -9,8 +9,6 @@ use Rattle.runner.proofs.Whole.{none-yet, none-more}
 use borrow.Author.Needs.{needs}
 use Rattle.runner.proofs.feed.first_feed.Statement.{statement}
 use Rattle.runner.proofs.feed.first_feed.Tie as tie
-use Rattle.runner.proofs.feed.first_feed.Reads as reads
-use Rattle.runner.proofs.feed.first_feed.Lts as lts
 
 abbrev Inv-loop : tie.InvT-loop
 Inv-loop s i₀ i = (i ≤ length s) × (all noFeed (take i s) ≡ true)
@@ -18,35 +16,28 @@ Inv-loop s i₀ i = (i ≤ length s) × (all noFeed (take i s) ≡ true)
 abbrev μ-loop : tie.MeasureT-loop
 μ-loop s i₀ i = length s - i
 
--- src/feed.rt:77:5
 loop-holds : tie.Need-loop-holds Inv-loop μ-loop
 loop-holds c = (omega arith, none-yet (c .args .s .now))
 
--- src/feed.rt:78:12
 shared-slice-read-if1 : tie.Need-shared-slice-read-if1 Inv-loop μ-loop
 shared-slice-read-if1 c = search needs
 
--- src/feed.rt:79:13
 returns : tie.Need-returns Inv-loop μ-loop
 returns c =
     let v = c .before .before .before .loop in
     record { within = v .inv .0; none = v .inv .1; feed = λ more. c .if1 .taken }
 
--- src/feed.rt:81:9
 add-i : tie.Need-add-i Inv-loop μ-loop
 add-i c = search needs
 
--- src/feed.rt:77:5
 loop-less : tie.Need-loop-less Inv-loop μ-loop
 loop-less c = search needs
 
--- src/feed.rt:77:5
 loop-again : tie.Need-loop-again Inv-loop μ-loop
 loop-again c =
     let v = c .before .before .before .loop in
     (search needs, none-more (c .before .before .before .before .args .s .now) (v .i) (c .before .before .loop-test .taken) (v .inv .1) (c .if1 .left))
 
--- src/feed.rt:73:1
 returns-2 : tie.Need-returns-2 Inv-loop μ-loop
 returns-2 c =
     let v = c .before .loop in

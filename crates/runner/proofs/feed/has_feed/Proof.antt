@@ -1,19 +1,15 @@
 use Prim.Native.Nat.{_-_, _≤_}
-use mathlib.Core.Path.{_≡_, sym, ap, _∙_}
+use mathlib.Core.Path.{_≡_, ap, _∙_}
 use mathlib.Core.Bool.{not}
-use mathlib.Core.List.{List}
 use native.Mathlib.Omega.{arith}
 use lib.ListN.{length, take}
 use lib.Seq.{take-all}
-use Prim.Native.Nat.{ℕ}
 use Rattle.rules.specs.Lists.{all}
 use Rattle.runner.specs.Feeding.{noFeed}
 use Rattle.runner.proofs.Whole.{found-none, found-more}
 use borrow.Author.Needs.{needs}
 use Rattle.runner.proofs.feed.has_feed.Statement.{statement}
 use Rattle.runner.proofs.feed.has_feed.Tie as tie
-use Rattle.runner.proofs.feed.has_feed.Reads as reads
-use Rattle.runner.proofs.feed.has_feed.Lts as lts
 
 abbrev Inv-loop : tie.InvT-loop
 Inv-loop s found₀ i₀ found i = (i ≤ length s) × (not found ≡ all noFeed (take i s))
@@ -21,29 +17,23 @@ Inv-loop s found₀ i₀ found i = (i ≤ length s) × (not found ≡ all noFeed
 abbrev μ-loop : tie.MeasureT-loop
 μ-loop s found₀ i₀ found i = length s - i
 
--- src/feed.rt:107:5
 loop-holds : tie.Need-loop-holds Inv-loop μ-loop
 loop-holds c = (omega arith, found-none (c .args .s .now))
 
--- src/feed.rt:108:26
 shared-slice-read-found : tie.Need-shared-slice-read-found Inv-loop μ-loop
 shared-slice-read-found c = search needs
 
--- src/feed.rt:109:9
 add-i : tie.Need-add-i Inv-loop μ-loop
 add-i c = search needs
 
--- src/feed.rt:107:5
 loop-less : tie.Need-loop-less Inv-loop μ-loop
 loop-less c = search needs
 
--- src/feed.rt:107:5
 loop-again : tie.Need-loop-again Inv-loop μ-loop
 loop-again c =
     let v = c .before .before .loop in
     (search needs, found-more (c .before .before .before .args .s .now) (v .i) (v .found) (c .before .loop-test .taken) (v .inv .1))
 
--- src/feed.rt:102:1
 returns : tie.Need-returns Inv-loop μ-loop
 returns c =
     let v = c .before .loop in

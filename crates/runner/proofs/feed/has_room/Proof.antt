@@ -5,14 +5,10 @@ use borrow.Author.Tests.{lt-leb}
 use borrow.Author.Needs.{needs}
 use Rattle.runner.proofs.feed.has_room.Statement.{statement}
 use Rattle.runner.proofs.feed.has_room.Tie as tie
-use Rattle.runner.proofs.feed.has_room.Reads as reads
-use Rattle.runner.proofs.feed.has_room.Lts as lts
 
--- src/feed.rt:134:9
 returns : tie.Need-returns
 returns c = sym (lt-leb 45000 (c .before .args .len - c .before .args .at) (omega arith))
 
--- src/feed.rt:130:1
 returns-2 : tie.Need-returns-2
 returns-2 c = search needs
 

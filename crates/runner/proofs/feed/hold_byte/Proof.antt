@@ -3,26 +3,19 @@ use Rattle.runner.proofs.Feeds.{hold-more, hold-full}
 use borrow.Author.Needs.{needs}
 use Rattle.runner.proofs.feed.hold_byte.Statement.{statement}
 use Rattle.runner.proofs.feed.hold_byte.Tie as tie
-use Rattle.runner.proofs.feed.hold_byte.Reads as reads
-use Rattle.runner.proofs.feed.hold_byte.Lts as lts
 
--- src/feed.rt:35:9
 slice-write-hold : tie.Need-slice-write-hold
 slice-write-hold c = search needs
 
--- src/feed.rt:36:16
 add-result : tie.Need-add-result
 add-result c = search needs
 
--- src/feed.rt:36:9
 same-length : tie.Need-same-length
 same-length c = search needs
 
--- src/feed.rt:36:9
 returns : tie.Need-returns
 returns c = (hold-more (c .before .args .hold .now) (c .before .args .held) (c .before .args .b) (c .if1 .taken) (c .before .pre .1), omega arith)
 
--- src/feed.rt:28:1
 returns-2 : tie.Need-returns-2
 returns-2 c = (hold-full (c .before .args .hold .now) (c .before .args .held) (c .before .args .b) (c .if1 .left) (c .before .pre .0) (c .before .pre .1), omega arith)
 

@@ -1,6 +1,5 @@
-use Prim.Native.Nat.{ℕ, _-_, _≤_}
+use Prim.Native.Nat.{_-_, _≤_}
 use mathlib.Core.Path.{_≡_, refl, ap, _∙_}
-use mathlib.Core.List.{List}
 use native.Mathlib.Omega.{arith}
 use lib.ListN.{length, take}
 use lib.Seq.{take-all}
@@ -9,9 +8,6 @@ use Rattle.runner.proofs.Parts.{held-none, held-next}
 use borrow.Author.Needs.{needs}
 use Rattle.runner.proofs.feed.hold_part.Statement.{statement}
 use Rattle.runner.proofs.feed.hold_part.Tie as tie
-use Rattle.runner.proofs.feed.hold_part.Reads as reads
-use Rattle.runner.proofs.feed.hold_part.Lts as lts
-use Rattle.runner.proofs.feed.hold_byte.Reads as hold-byte-reads
 
 abbrev Inv-loop : tie.InvT-loop
 Inv-loop hold₀ held part n₀ k₀ hold n k =
@@ -20,29 +16,23 @@ Inv-loop hold₀ held part n₀ k₀ hold n k =
 abbrev μ-loop : tie.MeasureT-loop
 μ-loop hold₀ held part n₀ k₀ hold n k = length part - k
 
--- src/feed.rt:57:5
 loop-holds : tie.Need-loop-holds Inv-loop μ-loop
 loop-holds c =
     let a = c .before .before .args in
     (omega arith, held-none (take (a .held) (a .hold .now)) (a .part .now), c .before .before .pre .0, refl)
 
--- src/feed.rt:58:32
 shared-slice-read-hold-byte : tie.Need-shared-slice-read-hold-byte Inv-loop μ-loop
 shared-slice-read-hold-byte c = search needs
 
--- src/feed.rt:58:9
 hold-byte-requires : tie.Need-hold-byte-requires Inv-loop μ-loop
 hold-byte-requires c κs = search needs
 
--- src/feed.rt:59:9
 add-k : tie.Need-add-k Inv-loop μ-loop
 add-k c = search needs
 
--- src/feed.rt:57:5
 loop-less : tie.Need-loop-less Inv-loop μ-loop
 loop-less c = search needs
 
--- src/feed.rt:57:5
 loop-again : tie.Need-loop-again Inv-loop μ-loop
 loop-again c =
     let a = c .before .before .before .before .before .before .before .before .before .args in
@@ -50,11 +40,9 @@ loop-again c =
     let h = c .before .before .hold-byte in
     (search needs, held-next (take (a .held) (a .hold .now)) (a .part .now) (v .k) (c .before .before .before .before .before .loop-test .taken) (v .inv .1) (h .ensures .0), h .ensures .1, search needs)
 
--- src/feed.rt:49:1
 same-length : tie.Need-same-length Inv-loop μ-loop
 same-length c = search needs
 
--- src/feed.rt:49:1
 returns : tie.Need-returns Inv-loop μ-loop
 returns c =
     let a = c .before .before .before .before .args in

@@ -1,35 +1,30 @@
 use Prim.Native.Nat.{ℕ, zero, suc, _+_, _-_, _≤_, _<_}
 use mathlib.Core.Path.{_≡_, refl, sym, ap, _∙_}
-use mathlib.Core.List.{List}
 use mathlib.Core.Bool.{Bool, true, false, not, cond}
 use native.Mathlib.Omega.{arith}
 use lib.Dec.{leb}
-use lib.ListN.{length, getD, take}
+use lib.ListN.{length}
 use lib.Seq.{length-take-le}
 use borrow.Author.Tests.{leb-false}
 use Rattle.rules.specs.declared.desk.Desk.{Desk}
-use Rattle.rules.specs.declared.calls.Line.{Line}
 use Rattle.rules.specs.declared.answers.Tally.{Tally}
-use Rattle.lines.proofs.FieldLaws.{from-on}
-use Rattle.replies.specs.Writing.{page}
+use Rattle.rules.specs.State.{Book}
+use Rattle.rules.specs.Replies.{told, plain}
+use Rattle.rules.specs.Answer.{bookOf}
+use Rattle.fields.proofs.FieldLaws.{from-on}
+use Rattle.pages.specs.Writing.{Page, page}
+use Rattle.refusals.specs.Said.{lineNumber}
+use Rattle.refusals.proofs.Said.{all-said}
+use Rattle.steps.specs.declared.step.Stepped.{Stepped}
+use Rattle.steps.specs.Step.{steppedOf}
 use Rattle.runner.specs.declared.feed.Feeding.{Feeding}
 use Rattle.runner.specs.declared.running.Running.{Running}
 use Rattle.runner.specs.Feeding.{fedMachine}
-use Rattle.runner.specs.Machine.{Machine}
-use Rattle.runner.proofs.Closing.{malformed-answered, malformed-text, malformed-counted}
+use Rattle.runner.proofs.Answering.{said-replied, line-accepted, line-answered, line-text, line-counted}
 use Rattle.runner.proofs.Parts.{SoFar, so-begun, so-stopped, so-held, so-line, so-some, rest-length}
 use borrow.Author.Needs.{needs}
 use Rattle.runner.proofs.feed.run_some.Statement.{statement}
 use Rattle.runner.proofs.feed.run_some.Tie as tie
-use Rattle.runner.proofs.feed.run_some.Reads as reads
-use Rattle.runner.proofs.feed.run_some.Lts as lts
-use Rattle.runner.proofs.feed.feed_at.Reads as feed-at-reads
-use Rattle.runner.proofs.feed.has_room.Reads as has-room-reads
-use Rattle.runner.proofs.feed.hold_part.Reads as hold-part-reads
-use Rattle.runner.proofs.feed.so_far.Reads as so-far-reads
-use Rattle.runner.proofs.feed.whole_line.Reads as whole-line-reads
-use Rattle.runner.proofs.running.answer_line.Reads as answer-line-reads
-use Rattle.runner.proofs.feed.answer_malformed.Reads as answer-malformed-reads
 
 abbrev running : Desk → Tally → ℕ → Running
 running desk tally line = record { desk = desk; tally = tally; line = line }
@@ -67,123 +62,95 @@ Inv-loop inbox₀ outbox₀ history₀ hold₀ out₀ chunk desk₀ tally₀ lin
 abbrev μ-loop : tie.MeasureT-loop
 μ-loop inbox₀ outbox₀ history₀ hold₀ out₀ chunk desk₀ tally₀ line₀ held₀ at₀ k₀ inbox outbox history hold out desk tally line held at k = length chunk - k
 
--- src/feed.rt:151:5
 loop-holds : tie.Need-loop-holds Inv-loop μ-loop
 loop-holds c =
     let a = c .before .before .before .before .before .before .before .before .before .args in
     (so-begun (a .f) (a .inbox .now) (a .outbox .now) (a .history .now) (a .hold .now) (a .out .now) (a .chunk .now) (c .before .before .before .before .before .before .before .before .before .pre .0) (c .before .before .before .before .before .before .before .before .before .pre .1), refl, refl, refl, refl, refl, λ z. refl)
 
--- src/feed.rt:153:13
 has-room-requires : tie.Need-has-room-requires Inv-loop μ-loop
 has-room-requires c κs = search needs
 
--- src/feed.rt:154:13
 so-far-requires : tie.Need-so-far-requires Inv-loop μ-loop
 so-far-requires c κs = search needs
 
--- src/feed.rt:154:13
 same-length : tie.Need-same-length Inv-loop μ-loop
 same-length c = search needs
 
--- src/feed.rt:154:13
 same-length-2 : tie.Need-same-length-2 Inv-loop μ-loop
 same-length-2 c = search needs
 
--- src/feed.rt:154:13
 same-length-3 : tie.Need-same-length-3 Inv-loop μ-loop
 same-length-3 c = search needs
 
--- src/feed.rt:154:13
 same-length-4 : tie.Need-same-length-4 Inv-loop μ-loop
 same-length-4 c = search needs
 
--- src/feed.rt:154:13
 same-length-5 : tie.Need-same-length-5 Inv-loop μ-loop
 same-length-5 c = search needs
 
--- src/feed.rt:154:13
 returns : tie.Need-returns Inv-loop μ-loop
 returns c =
     let a = c .before .before .before .before .before .before .before .before .before .before .before .before .before .before .args in
     let v = c .before .before .before .before .loop in
     so-some (a .f) (a .inbox .now) (a .outbox .now) (a .history .now) (a .hold .now) (a .out .now) (a .chunk .now) (v .k) (as-fed (v .desk) (v .tally) (v .line) (v .held) (v .at)) (v .inbox) (v .outbox) (v .history) (v .hold) (v .out) (v .inv .0) (λ some room. some-moved (v .k) _ _ _ _ (v .inv .5) (v .inv .6) (no-room (c .before .before .has-room .result) _ _ (c .before .before .has-room .ensures) (c .before .if1 .taken)) room) (c .so-far .result) (c .so-far .ensures)
 
--- src/feed.rt:157:13
 so-far-requires-2 : tie.Need-so-far-requires-2 Inv-loop μ-loop
 so-far-requires-2 c κs = search needs
 
--- src/feed.rt:157:13
 same-length-6 : tie.Need-same-length-6 Inv-loop μ-loop
 same-length-6 c = search needs
 
--- src/feed.rt:157:13
 same-length-7 : tie.Need-same-length-7 Inv-loop μ-loop
 same-length-7 c = search needs
 
--- src/feed.rt:157:13
 same-length-8 : tie.Need-same-length-8 Inv-loop μ-loop
 same-length-8 c = search needs
 
--- src/feed.rt:157:13
 same-length-9 : tie.Need-same-length-9 Inv-loop μ-loop
 same-length-9 c = search needs
 
--- src/feed.rt:157:13
 same-length-10 : tie.Need-same-length-10 Inv-loop μ-loop
 same-length-10 c = search needs
 
--- src/feed.rt:157:13
 returns-2 : tie.Need-returns-2 Inv-loop μ-loop
 returns-2 c =
     let a = c .before .before .before .before .before .before .before .before .before .before .before .before .before .before .before .args in
     let v = c .before .before .before .before .before .loop in
     so-some (a .f) (a .inbox .now) (a .outbox .now) (a .history .now) (a .hold .now) (a .out .now) (a .chunk .now) (length (a .chunk .now)) (as-fed (v .desk) (v .tally) (v .line) (v .held) (v .at)) (v .inbox) (v .outbox) (v .history) (v .hold) (v .out) (so-stopped _ _ _ _ _ _ _ _ _ _ _ (v .inv .0) (c .before .if2 .taken)) (λ some room. some) (c .so-far2 .result) (c .so-far2 .ensures)
 
--- src/feed.rt:159:20
 sub-rest : tie.Need-sub-rest Inv-loop μ-loop
 sub-rest c = search needs
 
--- src/feed.rt:159:20
 part-rest-start : tie.Need-part-rest-start Inv-loop μ-loop
 part-rest-start c = search needs
 
--- src/feed.rt:159:20
 part-rest-end : tie.Need-part-rest-end Inv-loop μ-loop
 part-rest-end c = search needs
 
--- src/feed.rt:160:13
 feed-at-requires : tie.Need-feed-at-requires Inv-loop μ-loop
 feed-at-requires c κs = search needs
 
--- src/feed.rt:162:13
 hold-part-requires : tie.Need-hold-part-requires Inv-loop μ-loop
 hold-part-requires c κs = (c .before .before .before .before .before .before .before .before .loop .inv .0 .ready .held, c .before .before .before .before .before .before .before .before .loop .inv .0 .ready .size)
 
--- src/feed.rt:163:13
 so-far-requires-3 : tie.Need-so-far-requires-3 Inv-loop μ-loop
 so-far-requires-3 c κs = search needs
 
--- src/feed.rt:163:13
 same-length-11 : tie.Need-same-length-11 Inv-loop μ-loop
 same-length-11 c = search needs
 
--- src/feed.rt:163:13
 same-length-12 : tie.Need-same-length-12 Inv-loop μ-loop
 same-length-12 c = search needs
 
--- src/feed.rt:163:13
 same-length-13 : tie.Need-same-length-13 Inv-loop μ-loop
 same-length-13 c = search needs
 
--- src/feed.rt:163:13
 same-length-14 : tie.Need-same-length-14 Inv-loop μ-loop
 same-length-14 c = search needs
 
--- src/feed.rt:163:13
 same-length-15 : tie.Need-same-length-15 Inv-loop μ-loop
 same-length-15 c = search needs
 
--- src/feed.rt:163:13
 returns-3 : tie.Need-returns-3 Inv-loop μ-loop
 returns-3 c =
     let a = c .before .before .before .before .before .before .before .before .before .before .before .before .before .before .before .before .before .before .before .before .before .before .args in
@@ -193,71 +160,77 @@ returns-3 c =
     so-some (a .f) (a .inbox .now) (a .outbox .now) (a .history .now) (a .hold .now) (a .out .now) (a .chunk .now) (length (a .chunk .now)) (as-fed (v .desk) (v .tally) (v .line) (h .result) (v .at)) (v .inbox) (v .outbox) (v .history) (h .last .0) (v .out)
     (so-held _ _ _ _ _ _ _ _ _ _ _ (v .inv .0) (c .before .before .before .before .before .before .before .before .if2 .left) (from-on (a .chunk .now) (v .k)) (n .result) (n .ensures) (c .before .before .before .before .before .if3 .taken) (h .result) (h .last .0) (search needs) (h .ensures .0) (h .ensures .1)) (λ some room. some) (c .so-far3 .result) (c .so-far3 .ensures)
 
--- src/feed.rt:165:40
 slice-aggregate-whole-line : tie.Need-slice-aggregate-whole-line Inv-loop μ-loop
 slice-aggregate-whole-line c = sym (length-take-le _ _ (c .before .before .before .feed-at .ensures .within))
 
--- src/feed.rt:165:13
 whole-line-requires : tie.Need-whole-line-requires Inv-loop μ-loop
 whole-line-requires c κs = (c .before .before .before .before .before .before .before .before .before .loop .inv .0 .ready .held, c .before .before .before .before .before .before .before .before .before .loop .inv .0 .ready .size)
 
--- src/feed.rt:167:51
-enum-told : tie.Need-enum-told Inv-loop μ-loop
-enum-told c = search needs
+counts-of-requires : tie.Need-counts-of-requires Inv-loop μ-loop
+counts-of-requires c κs = search needs
 
--- src/feed.rt:167:17
-answer-malformed-requires : tie.Need-answer-malformed-requires Inv-loop μ-loop
-answer-malformed-requires c κs =
-    let r = c .before .before .before .before .before .before .before .before .before .before .before .before .before .before .before .loop .inv .0 .ready .counted in
-    let l = c .before .before .before .before .before .before .before .before .before .before .before .if2 .left in
+line-reply-requires : tie.Need-line-reply-requires Inv-loop μ-loop
+line-reply-requires c κs = search needs
+
+says-all-requires : tie.Need-says-all-requires Inv-loop μ-loop
+says-all-requires c κs = search needs
+
+answer-said-requires : tie.Need-answer-said-requires Inv-loop μ-loop
+answer-said-requires c κs =
+    let r = c .before .before .before .before .before .before .before .before .before .before .before .before .before .before .before .before .before .before .before .before .before .before .before .before .before .loop .inv .0 .ready .counted in
+    let l = c .before .before .before .before .before .before .before .before .before .before .before .before .before .before .before .before .before .before .before .before .before .if2 .left in
     (omega (arith, r .done, r .few, l), omega (arith, r .other, r .few, l))
 
--- src/feed.rt:169:13
 add-line : tie.Need-add-line Inv-loop μ-loop
-add-line c = let l = c .before .before .before .before .before .before .before .before .before .before .before .before .before .before .before .if2 .left in omega (arith, l)
+add-line c = let l = c .before .before .before .before .before .before .before .before .before .before .before .before .before .before .before .before .before .before .before .before .before .before .before .before .before .if2 .left in omega (arith, l)
 
--- src/feed.rt:172:18
 add-k : tie.Need-add-k Inv-loop μ-loop
 add-k c =
-    let first = c .before .before .before .before .before .before .before .before .before .before .before .before .before .before .before .before .before .before .before .before .before .before .before .before .before .before .before .before .before in
-    let known = c .before .before .before .before .before .before .before .before .before .before .before .before .before .before .before .before .before .before .before .before .before .before .before .shared-slice-known .given in
-    let i = c .before .before .before .before .before .before .before .before .before .before .before .before .if3 .left in
-    let v = c .before .before .before .before .before .before .before .before .before .before .before .before .before .before .before .before .before .before .before .loop in
-    let rest = rest-length (c .before .before .before .before .before .before .before .before .before .before .before .before .before .before .before .before .before .before .before .before .before .before .before .before .before .before .before .before .before .args .chunk .now) (v .k) (from-on (c .before .before .before .before .before .before .before .before .before .before .before .before .before .before .before .before .before .before .before .before .before .before .before .before .before .before .before .before .before .args .chunk .now) (v .k)) in
+    let first = c .before .before .before .before .before .before .before .before .before .before .before .before .before .before .before .before .before .before .before .before .before .before .before .before .before .before .before .before .before .before .before .before .before .before .before .before .before .before .before in
+    let known = c .before .before .before .before .before .before .before .before .before .before .before .before .before .before .before .before .before .before .before .before .before .before .before .before .before .before .before .before .before .before .before .before .before .shared-slice-known .given in
+    let i = c .before .before .before .before .before .before .before .before .before .before .before .before .before .before .before .before .before .before .before .before .before .before .if3 .left in
+    let v = c .before .before .before .before .before .before .before .before .before .before .before .before .before .before .before .before .before .before .before .before .before .before .before .before .before .before .before .before .before .loop in
+    let rest = rest-length (c .before .before .before .before .before .before .before .before .before .before .before .before .before .before .before .before .before .before .before .before .before .before .before .before .before .before .before .before .before .before .before .before .before .before .before .before .before .before .before .args .chunk .now) (v .k) (from-on (c .before .before .before .before .before .before .before .before .before .before .before .before .before .before .before .before .before .before .before .before .before .before .before .before .before .before .before .before .before .before .before .before .before .before .before .before .before .before .before .args .chunk .now) (v .k)) in
     omega (arith, i, rest)
 
--- src/feed.rt:172:13
 add-k-2 : tie.Need-add-k-2 Inv-loop μ-loop
 add-k-2 c =
-    let first = c .before .before .before .before .before .before .before .before .before .before .before .before .before .before .before .before .before .before .before .before .before .before .before .before .before .before .before .before .before in
-    let known = c .before .before .before .before .before .before .before .before .before .before .before .before .before .before .before .before .before .before .before .before .before .before .before .shared-slice-known .given in
-    let i = c .before .before .before .before .before .before .before .before .before .before .before .before .if3 .left in
-    let v = c .before .before .before .before .before .before .before .before .before .before .before .before .before .before .before .before .before .before .before .loop in
-    let rest = rest-length (c .before .before .before .before .before .before .before .before .before .before .before .before .before .before .before .before .before .before .before .before .before .before .before .before .before .before .before .before .before .args .chunk .now) (v .k) (from-on (c .before .before .before .before .before .before .before .before .before .before .before .before .before .before .before .before .before .before .before .before .before .before .before .before .before .before .before .before .before .args .chunk .now) (v .k)) in
+    let first = c .before .before .before .before .before .before .before .before .before .before .before .before .before .before .before .before .before .before .before .before .before .before .before .before .before .before .before .before .before .before .before .before .before .before .before .before .before .before .before in
+    let known = c .before .before .before .before .before .before .before .before .before .before .before .before .before .before .before .before .before .before .before .before .before .before .before .before .before .before .before .before .before .before .before .before .before .shared-slice-known .given in
+    let i = c .before .before .before .before .before .before .before .before .before .before .before .before .before .before .before .before .before .before .before .before .before .before .if3 .left in
+    let v = c .before .before .before .before .before .before .before .before .before .before .before .before .before .before .before .before .before .before .before .before .before .before .before .before .before .before .before .before .before .loop in
+    let rest = rest-length (c .before .before .before .before .before .before .before .before .before .before .before .before .before .before .before .before .before .before .before .before .before .before .before .before .before .before .before .before .before .before .before .before .before .before .before .before .before .before .before .args .chunk .now) (v .k) (from-on (c .before .before .before .before .before .before .before .before .before .before .before .before .before .before .before .before .before .before .before .before .before .before .before .before .before .before .before .before .before .before .before .before .before .before .before .before .before .before .before .args .chunk .now) (v .k)) in
     omega (arith, i, rest)
 
--- src/feed.rt:151:5
 loop-less : tie.Need-loop-less Inv-loop μ-loop
 loop-less c =
-    let i = c .before .before .before .before .before .before .before .before .before .before .before .before .if3 .left in
-    let v = c .before .before .before .before .before .before .before .before .before .before .before .before .before .before .before .before .before .before .before .loop in
-    let here = c .before .before .before .before .before .before .before .before .before .before .before .before .before .before .before .before .before .before .loop-test .taken in
-    let rest = rest-length (c .before .before .before .before .before .before .before .before .before .before .before .before .before .before .before .before .before .before .before .before .before .before .before .before .before .before .before .before .before .args .chunk .now) (v .k) (from-on (c .before .before .before .before .before .before .before .before .before .before .before .before .before .before .before .before .before .before .before .before .before .before .before .before .before .before .before .before .before .args .chunk .now) (v .k)) in
+    let i = c .before .before .before .before .before .before .before .before .before .before .before .before .before .before .before .before .before .before .before .before .before .before .if3 .left in
+    let v = c .before .before .before .before .before .before .before .before .before .before .before .before .before .before .before .before .before .before .before .before .before .before .before .before .before .before .before .before .before .loop in
+    let here = c .before .before .before .before .before .before .before .before .before .before .before .before .before .before .before .before .before .before .before .before .before .before .before .before .before .before .before .before .loop-test .taken in
+    let rest = rest-length (c .before .before .before .before .before .before .before .before .before .before .before .before .before .before .before .before .before .before .before .before .before .before .before .before .before .before .before .before .before .before .before .before .before .before .before .before .before .before .before .args .chunk .now) (v .k) (from-on (c .before .before .before .before .before .before .before .before .before .before .before .before .before .before .before .before .before .before .before .before .before .before .before .before .before .before .before .before .before .before .before .before .before .before .before .before .before .before .before .args .chunk .now) (v .k)) in
     omega (arith, i, rest, here)
 
--- src/feed.rt:151:5
 loop-again : tie.Need-loop-again Inv-loop μ-loop
 loop-again c =
-    let a = c .before .before .before .before .before .before .before .before .before .before .before .before .before .before .before .before .before .before .before .before .before .before .before .before .before .before .before .before .before .args in
-    let v = c .before .before .before .before .before .before .before .before .before .before .before .before .before .before .before .before .before .before .before .loop in
-    let n = c .before .before .before .before .before .before .before .before .before .before .before .before .before .feed-at in
-    let l = c .before .before .before .before .before .before .before .before .before .whole-line in
-    let w = c .before .before .before .answer-malformed in
-    let few = c .before .before .before .before .before .before .before .before .before .before .before .before .before .before .before .if2 .left in
-    let room = holds-room (c .before .before .before .before .before .before .before .before .before .before .before .before .before .before .before .before .before .has-room .result) _ (c .before .before .before .before .before .before .before .before .before .before .before .before .before .before .before .before .before .has-room .ensures) (c .before .before .before .before .before .before .before .before .before .before .before .before .before .before .before .before .if1 .left) in
-    let run : Running = running (v .desk) (v .tally) (v .line) in (
-      so-line _ _ _ _ _ _ _ _ _ _ _ (v .inv .0) few room (from-on (a .chunk .now) (v .k)) (n .result) (n .ensures) (c .before .before .before .before .before .before .before .before .before .before .before .before .if3 .left) Line.Malformed (sym (c .before .before .before .before .before .enum-told .given .1) ∙ l .ensures) (running (v .desk) (w .result .tally) (v .line + 1)) (w .result .at) (v .inbox) (v .outbox) (v .history) (l .last .0) (w .last .1 .1 .0) (search needs)
-          (malformed-answered run (v .inbox) (v .outbox) (v .history) (w .result .tally) (w .ensures .0)) (malformed-text run (v .inbox) (v .outbox) (v .history) (page (v .out) (v .at)) (w .ensures .1)) (malformed-counted run (v .inbox) (v .outbox) (v .history) (w .result .tally) (w .ensures .0) (v .inv .0 .ready .counted) few),
+    let a = c .before .before .before .before .before .before .before .before .before .before .before .before .before .before .before .before .before .before .before .before .before .before .before .before .before .before .before .before .before .before .before .before .before .before .before .before .before .before .before .args in
+    let v = c .before .before .before .before .before .before .before .before .before .before .before .before .before .before .before .before .before .before .before .before .before .before .before .before .before .before .before .before .before .loop in
+    let n = c .before .before .before .before .before .before .before .before .before .before .before .before .before .before .before .before .before .before .before .before .before .before .before .feed-at in
+    let l = c .before .before .before .before .before .before .before .before .before .before .before .before .before .before .before .before .before .before .before .whole-line in
+    let w = c .before .before .before .answer-said in
+    let few = c .before .before .before .before .before .before .before .before .before .before .before .before .before .before .before .before .before .before .before .before .before .before .before .before .before .if2 .left in
+    let room = holds-room (c .before .before .before .before .before .before .before .before .before .before .before .before .before .before .before .before .before .before .before .before .before .before .before .before .before .before .before .has-room .result) _ (c .before .before .before .before .before .before .before .before .before .before .before .before .before .before .before .before .before .before .before .before .before .before .before .before .before .before .before .has-room .ensures) (c .before .before .before .before .before .before .before .before .before .before .before .before .before .before .before .before .before .before .before .before .before .before .before .before .before .before .if1 .left) in
+    let y = c .before .before .before .before .before .before .before .line-reply in
+    let run : Running = running (v .desk) (v .tally) (v .line) in
+    let b : Book = bookOf (v .desk) (v .inbox) (v .outbox) (v .history) in
+    let p : Page = page (v .out) (v .at) in
+    let r : Stepped = steppedOf (v .desk) (y .result) (w .result .at) in
+    let tells : told (y .result) ≡ plain (lineNumber b (l .result)) = rw (y .ensures, c .before .before .before .before .before .before .before .before .before .before .before .before .before .before .before .before .counts-of .ensures) in
+    let said = all-said b (y .result) (l .result) tells (sym (c .before .before .before .before .before .before .says-all .ensures) ∙ c .before .before .before .before .before .if4 .taken) in
+    let e = said-replied run (v .inbox) (v .outbox) (v .history) (l .result) (y .result) p (w .result .at) (w .last .1 .1 .0) said (w .ensures .1) in (
+      so-line _ _ _ _ _ _ _ _ _ _ _ (v .inv .0) few room (from-on (a .chunk .now) (v .k)) (n .result) (n .ensures) (c .before .before .before .before .before .before .before .before .before .before .before .before .before .before .before .before .before .before .before .before .before .before .if3 .left) (l .result) (l .ensures) (running (v .desk) (w .result .tally) (v .line + 1)) (w .result .at) (v .inbox) (v .outbox) (v .history) (l .last .0) (w .last .1 .1 .0) (search needs)
+          (line-answered run (v .inbox) (v .outbox) (v .history) (l .result) p r (v .inbox) (v .outbox) (v .history) (w .last .1 .1 .0) e (w .result .tally) (w .ensures .0))
+          (line-text run (v .inbox) (v .outbox) (v .history) (l .result) p r (v .inbox) (v .outbox) (v .history) (w .last .1 .1 .0) e (w .result .tally) (w .ensures .0))
+          (line-counted run (v .inbox) (v .outbox) (v .history) (l .result) p r (v .inbox) (v .outbox) (v .history) (w .last .1 .1 .0) e (w .result .tally) (w .ensures .0) (v .inv .0 .ready .counted) few),
       search needs,
       search needs,
       search needs,
@@ -266,53 +239,50 @@ loop-again c =
       λ z. absurd (omega (arith, z)),
     )
 
-enum-told-2 : tie.Need-enum-told-2 Inv-loop μ-loop
-enum-told-2 c = search needs
-
--- src/feed.rt:175:13
 answer-line-requires : tie.Need-answer-line-requires Inv-loop μ-loop
-answer-line-requires c κs = (c .before .before .before .before .before .before .before .before .before .before .before .before .before .before .before .before .before .before .loop .inv .0 .ready .counted, c .before .before .before .before .before .before .before .before .before .before .before .before .before .before .if2 .left)
+answer-line-requires c κs =
+    let v = c .before .before .before .before .before .before .before .before .before .before .before .before .before .before .before .before .before .before .before .before .before .before .before .before .before .before .before .before .loop in
+    let l = c .before .before .before .before .before .before .before .before .before .before .before .before .before .before .before .before .before .before .whole-line in
+    let y = c .before .before .before .before .before .before .line-reply in
+    let tells : told (y .result) ≡ plain (lineNumber (bookOf (v .desk) (v .inbox) (v .outbox) (v .history)) (l .result)) = rw (y .ensures, c .before .before .before .before .before .before .before .before .before .before .before .before .before .before .before .counts-of .ensures) in
+    (v .inv .0 .ready .counted, (c .before .before .before .before .before .before .before .before .before .before .before .before .before .before .before .before .before .before .before .before .before .before .before .before .if2 .left, line-accepted _ (l .result) (y .result) tells (sym (c .before .before .before .before .before .says-all .ensures) ∙ c .before .before .before .before .if4 .left)))
 
--- src/feed.rt:182:14
 add-k-3 : tie.Need-add-k-3 Inv-loop μ-loop
 add-k-3 c =
-    let first = c .before .before .before .before .before .before .before .before .before .before .before .before .before .before .before .before .before .before .before .before .before .before .before .before .before .before .before .before .before .before .before .before .before .before .before .before .before .before .before .before in
-    let known = c .before .before .before .before .before .before .before .before .before .before .before .before .before .before .before .before .before .before .before .before .before .before .before .before .before .before .before .before .before .before .before .before .before .before .shared-slice-known .given in
-    let i = c .before .before .before .before .before .before .before .before .before .before .before .before .before .before .before .before .before .before .before .before .before .before .before .if3 .left in
-    let v = c .before .before .before .before .before .before .before .before .before .before .before .before .before .before .before .before .before .before .before .before .before .before .before .before .before .before .before .before .before .before .loop in
-    let rest = rest-length (c .before .before .before .before .before .before .before .before .before .before .before .before .before .before .before .before .before .before .before .before .before .before .before .before .before .before .before .before .before .before .before .before .before .before .before .before .before .before .before .before .args .chunk .now) (v .k) (from-on (c .before .before .before .before .before .before .before .before .before .before .before .before .before .before .before .before .before .before .before .before .before .before .before .before .before .before .before .before .before .before .before .before .before .before .before .before .before .before .before .before .args .chunk .now) (v .k)) in
+    let first = c .before .before .before .before .before .before .before .before .before .before .before .before .before .before .before .before .before .before .before .before .before .before .before .before .before .before .before .before .before .before .before .before .before .before .before .before .before .before .before .before .before .before .before .before .before .before .before .before .before .before in
+    let known = c .before .before .before .before .before .before .before .before .before .before .before .before .before .before .before .before .before .before .before .before .before .before .before .before .before .before .before .before .before .before .before .before .before .before .before .before .before .before .before .before .before .before .before .before .shared-slice-known .given in
+    let i = c .before .before .before .before .before .before .before .before .before .before .before .before .before .before .before .before .before .before .before .before .before .before .before .before .before .before .before .before .before .before .before .before .before .if3 .left in
+    let v = c .before .before .before .before .before .before .before .before .before .before .before .before .before .before .before .before .before .before .before .before .before .before .before .before .before .before .before .before .before .before .before .before .before .before .before .before .before .before .before .before .loop in
+    let rest = rest-length (c .before .before .before .before .before .before .before .before .before .before .before .before .before .before .before .before .before .before .before .before .before .before .before .before .before .before .before .before .before .before .before .before .before .before .before .before .before .before .before .before .before .before .before .before .before .before .before .before .before .before .args .chunk .now) (v .k) (from-on (c .before .before .before .before .before .before .before .before .before .before .before .before .before .before .before .before .before .before .before .before .before .before .before .before .before .before .before .before .before .before .before .before .before .before .before .before .before .before .before .before .before .before .before .before .before .before .before .before .before .before .args .chunk .now) (v .k)) in
     omega (arith, i, rest)
 
--- src/feed.rt:182:9
 add-k-4 : tie.Need-add-k-4 Inv-loop μ-loop
 add-k-4 c =
-    let first = c .before .before .before .before .before .before .before .before .before .before .before .before .before .before .before .before .before .before .before .before .before .before .before .before .before .before .before .before .before .before .before .before .before .before .before .before .before .before .before .before in
-    let known = c .before .before .before .before .before .before .before .before .before .before .before .before .before .before .before .before .before .before .before .before .before .before .before .before .before .before .before .before .before .before .before .before .before .before .shared-slice-known .given in
-    let i = c .before .before .before .before .before .before .before .before .before .before .before .before .before .before .before .before .before .before .before .before .before .before .before .if3 .left in
-    let v = c .before .before .before .before .before .before .before .before .before .before .before .before .before .before .before .before .before .before .before .before .before .before .before .before .before .before .before .before .before .before .loop in
-    let rest = rest-length (c .before .before .before .before .before .before .before .before .before .before .before .before .before .before .before .before .before .before .before .before .before .before .before .before .before .before .before .before .before .before .before .before .before .before .before .before .before .before .before .before .args .chunk .now) (v .k) (from-on (c .before .before .before .before .before .before .before .before .before .before .before .before .before .before .before .before .before .before .before .before .before .before .before .before .before .before .before .before .before .before .before .before .before .before .before .before .before .before .before .before .args .chunk .now) (v .k)) in
+    let first = c .before .before .before .before .before .before .before .before .before .before .before .before .before .before .before .before .before .before .before .before .before .before .before .before .before .before .before .before .before .before .before .before .before .before .before .before .before .before .before .before .before .before .before .before .before .before .before .before .before .before in
+    let known = c .before .before .before .before .before .before .before .before .before .before .before .before .before .before .before .before .before .before .before .before .before .before .before .before .before .before .before .before .before .before .before .before .before .before .before .before .before .before .before .before .before .before .before .before .shared-slice-known .given in
+    let i = c .before .before .before .before .before .before .before .before .before .before .before .before .before .before .before .before .before .before .before .before .before .before .before .before .before .before .before .before .before .before .before .before .before .if3 .left in
+    let v = c .before .before .before .before .before .before .before .before .before .before .before .before .before .before .before .before .before .before .before .before .before .before .before .before .before .before .before .before .before .before .before .before .before .before .before .before .before .before .before .before .loop in
+    let rest = rest-length (c .before .before .before .before .before .before .before .before .before .before .before .before .before .before .before .before .before .before .before .before .before .before .before .before .before .before .before .before .before .before .before .before .before .before .before .before .before .before .before .before .before .before .before .before .before .before .before .before .before .before .args .chunk .now) (v .k) (from-on (c .before .before .before .before .before .before .before .before .before .before .before .before .before .before .before .before .before .before .before .before .before .before .before .before .before .before .before .before .before .before .before .before .before .before .before .before .before .before .before .before .before .before .before .before .before .before .before .before .before .before .args .chunk .now) (v .k)) in
     omega (arith, i, rest)
 
--- src/feed.rt:151:5
 loop-less-2 : tie.Need-loop-less-2 Inv-loop μ-loop
 loop-less-2 c =
-    let i = c .before .before .before .before .before .before .before .before .before .before .before .before .before .before .before .before .before .before .before .before .before .before .before .if3 .left in
-    let v = c .before .before .before .before .before .before .before .before .before .before .before .before .before .before .before .before .before .before .before .before .before .before .before .before .before .before .before .before .before .before .loop in
-    let here = c .before .before .before .before .before .before .before .before .before .before .before .before .before .before .before .before .before .before .before .before .before .before .before .before .before .before .before .before .before .loop-test .taken in
-    let rest = rest-length (c .before .before .before .before .before .before .before .before .before .before .before .before .before .before .before .before .before .before .before .before .before .before .before .before .before .before .before .before .before .before .before .before .before .before .before .before .before .before .before .before .args .chunk .now) (v .k) (from-on (c .before .before .before .before .before .before .before .before .before .before .before .before .before .before .before .before .before .before .before .before .before .before .before .before .before .before .before .before .before .before .before .before .before .before .before .before .before .before .before .before .args .chunk .now) (v .k)) in
+    let i = c .before .before .before .before .before .before .before .before .before .before .before .before .before .before .before .before .before .before .before .before .before .before .before .before .before .before .before .before .before .before .before .before .before .if3 .left in
+    let v = c .before .before .before .before .before .before .before .before .before .before .before .before .before .before .before .before .before .before .before .before .before .before .before .before .before .before .before .before .before .before .before .before .before .before .before .before .before .before .before .before .loop in
+    let here = c .before .before .before .before .before .before .before .before .before .before .before .before .before .before .before .before .before .before .before .before .before .before .before .before .before .before .before .before .before .before .before .before .before .before .before .before .before .before .before .loop-test .taken in
+    let rest = rest-length (c .before .before .before .before .before .before .before .before .before .before .before .before .before .before .before .before .before .before .before .before .before .before .before .before .before .before .before .before .before .before .before .before .before .before .before .before .before .before .before .before .before .before .before .before .before .before .before .before .before .before .args .chunk .now) (v .k) (from-on (c .before .before .before .before .before .before .before .before .before .before .before .before .before .before .before .before .before .before .before .before .before .before .before .before .before .before .before .before .before .before .before .before .before .before .before .before .before .before .before .before .before .before .before .before .before .before .before .before .before .before .args .chunk .now) (v .k)) in
     omega (arith, i, rest, here)
 
--- src/feed.rt:151:5
 loop-again-2 : tie.Need-loop-again-2 Inv-loop μ-loop
 loop-again-2 c =
-    let a = c .before .before .before .before .before .before .before .before .before .before .before .before .before .before .before .before .before .before .before .before .before .before .before .before .before .before .before .before .before .before .before .before .before .before .before .before .before .before .before .before .args in
-    let v = c .before .before .before .before .before .before .before .before .before .before .before .before .before .before .before .before .before .before .before .before .before .before .before .before .before .before .before .before .before .before .loop in
-    let n = c .before .before .before .before .before .before .before .before .before .before .before .before .before .before .before .before .before .before .before .before .before .before .before .before .feed-at in
-    let l = c .before .before .before .before .before .before .before .before .before .before .before .before .before .before .before .before .before .before .before .before .whole-line in
+    let a = c .before .before .before .before .before .before .before .before .before .before .before .before .before .before .before .before .before .before .before .before .before .before .before .before .before .before .before .before .before .before .before .before .before .before .before .before .before .before .before .before .before .before .before .before .before .before .before .before .before .before .args in
+    let v = c .before .before .before .before .before .before .before .before .before .before .before .before .before .before .before .before .before .before .before .before .before .before .before .before .before .before .before .before .before .before .before .before .before .before .before .before .before .before .before .before .loop in
+    let n = c .before .before .before .before .before .before .before .before .before .before .before .before .before .before .before .before .before .before .before .before .before .before .before .before .before .before .before .before .before .before .before .before .before .before .feed-at in
+    let l = c .before .before .before .before .before .before .before .before .before .before .before .before .before .before .before .before .before .before .before .before .before .before .before .before .before .before .before .before .before .before .whole-line in
     let w = c .before .before .before .before .before .before .before .before .before .before .before .answer-line in
-    let few = c .before .before .before .before .before .before .before .before .before .before .before .before .before .before .before .before .before .before .before .before .before .before .before .before .before .before .if2 .left in
-    let room = holds-room (c .before .before .before .before .before .before .before .before .before .before .before .before .before .before .before .before .before .before .before .before .before .before .before .before .before .before .before .before .has-room .result) _ (c .before .before .before .before .before .before .before .before .before .before .before .before .before .before .before .before .before .before .before .before .before .before .before .before .before .before .before .before .has-room .ensures) (c .before .before .before .before .before .before .before .before .before .before .before .before .before .before .before .before .before .before .before .before .before .before .before .before .before .before .before .if1 .left) in (
-      so-line _ _ _ _ _ _ _ _ _ _ _ (v .inv .0) few room (from-on (a .chunk .now) (v .k)) (n .result) (n .ensures) (c .before .before .before .before .before .before .before .before .before .before .before .before .before .before .before .before .before .before .before .before .before .before .before .if3 .left) (l .result) (l .ensures) (w .result .running) (w .result .at) (w .last .1 .0) (w .last .1 .1 .0) (w .last .1 .1 .1 .0) (l .last .0) (w .last .1 .1 .1 .1 .0) (search needs)
+    let few = c .before .before .before .before .before .before .before .before .before .before .before .before .before .before .before .before .before .before .before .before .before .before .before .before .before .before .before .before .before .before .before .before .before .before .before .before .if2 .left in
+    let room = holds-room (c .before .before .before .before .before .before .before .before .before .before .before .before .before .before .before .before .before .before .before .before .before .before .before .before .before .before .before .before .before .before .before .before .before .before .before .before .before .before .has-room .result) _ (c .before .before .before .before .before .before .before .before .before .before .before .before .before .before .before .before .before .before .before .before .before .before .before .before .before .before .before .before .before .before .before .before .before .before .before .before .before .before .has-room .ensures) (c .before .before .before .before .before .before .before .before .before .before .before .before .before .before .before .before .before .before .before .before .before .before .before .before .before .before .before .before .before .before .before .before .before .before .before .before .before .if1 .left) in (
+      so-line _ _ _ _ _ _ _ _ _ _ _ (v .inv .0) few room (from-on (a .chunk .now) (v .k)) (n .result) (n .ensures) (c .before .before .before .before .before .before .before .before .before .before .before .before .before .before .before .before .before .before .before .before .before .before .before .before .before .before .before .before .before .before .before .before .before .if3 .left) (l .result) (l .ensures) (w .result .running) (w .result .at) (w .last .1 .0) (w .last .1 .1 .0) (w .last .1 .1 .1 .0) (l .last .0) (w .last .1 .1 .1 .1 .0) (search needs)
           (w .ensures .0) (w .ensures .1 .0) (w .ensures .1 .1),
       search needs,
       search needs,
@@ -322,31 +292,24 @@ loop-again-2 c =
       λ z. absurd (omega (arith, z)),
     )
 
--- src/feed.rt:185:5
 so-far-requires-4 : tie.Need-so-far-requires-4 Inv-loop μ-loop
 so-far-requires-4 c κs = search needs
 
--- src/feed.rt:131:1
 same-length-16 : tie.Need-same-length-16 Inv-loop μ-loop
 same-length-16 c = search needs
 
--- src/feed.rt:131:1
 same-length-17 : tie.Need-same-length-17 Inv-loop μ-loop
 same-length-17 c = search needs
 
--- src/feed.rt:131:1
 same-length-18 : tie.Need-same-length-18 Inv-loop μ-loop
 same-length-18 c = search needs
 
--- src/feed.rt:131:1
 same-length-19 : tie.Need-same-length-19 Inv-loop μ-loop
 same-length-19 c = search needs
 
--- src/feed.rt:131:1
 same-length-20 : tie.Need-same-length-20 Inv-loop μ-loop
 same-length-20 c = search needs
 
--- src/feed.rt:131:1
 returns-4 : tie.Need-returns-4 Inv-loop μ-loop
 returns-4 c =
     let a = c .before .before .before .before .before .before .before .before .before .before .before .before .args in
@@ -390,14 +353,15 @@ run-some-spec =
     returns-3
     slice-aggregate-whole-line
     whole-line-requires
-    enum-told
-    answer-malformed-requires
+    counts-of-requires
+    line-reply-requires
+    says-all-requires
+    answer-said-requires
     add-line
     add-k
     add-k-2
     loop-less
     loop-again
-    enum-told-2
     answer-line-requires
     add-k-3
     add-k-4

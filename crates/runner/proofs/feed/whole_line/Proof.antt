@@ -1,6 +1,5 @@
-use Prim.Native.Nat.{ℕ, _≤_}
-use mathlib.Core.Path.{_≡_, refl, sym, ap, _∙_}
-use mathlib.Core.List.{List}
+use Prim.Native.Nat.{ℕ}
+use mathlib.Core.Path.{_≡_, sym, ap, _∙_}
 use native.Mathlib.Omega.{arith}
 use lib.ListN.{length, take}
 use lib.Seq.{length-take-le}
@@ -10,45 +9,33 @@ use Rattle.runner.proofs.Whole.{read-there}
 use borrow.Author.Needs.{needs}
 use Rattle.runner.proofs.feed.whole_line.Statement.{statement}
 use Rattle.runner.proofs.feed.whole_line.Tie as tie
-use Rattle.runner.proofs.feed.whole_line.Reads as reads
-use Rattle.runner.proofs.feed.whole_line.Lts as lts
-use Rattle.lines.proofs.read.read_line.Reads as read-line-reads
-use Rattle.runner.proofs.feed.hold_part.Reads as hold-part-reads
 
--- src/feed.rt:121:9
 read-line-requires : tie.Need-read-line-requires
 read-line-requires c κs = search needs
 
--- src/feed.rt:121:9
 returns : tie.Need-returns
 returns c =
     let a = c .before .before .before .before .args in
     c .read-line .ensures ∙ read-there (a .part .now) ∙ ap (λ (n : ℕ). readLine (holds (take n (a .hold .now)) (a .part .now))) (sym (c .before .if1 .taken))
 
--- src/feed.rt:123:9
 hold-part-requires : tie.Need-hold-part-requires
 hold-part-requires c κs = search needs
 
--- src/feed.rt:124:15
 slice-reshare-prefix-read-line : tie.Need-slice-reshare-prefix-read-line
 slice-reshare-prefix-read-line c = search needs
 
--- src/feed.rt:124:15
 slice-aggregate-read-line : tie.Need-slice-aggregate-read-line
 slice-aggregate-read-line c =
     let h = c .before .before .before .hold-part in
     let z : length (h .last .0) ≡ length (c .before .before .before .before .before .before .before .before .args .hold .now) = search needs in
     sym (length-take-le _ _ (omega (arith, h .ensures .1, c .before .before .before .before .before .before .before .before .pre .1, z)))
 
--- src/feed.rt:124:5
 read-line-requires-2 : tie.Need-read-line-requires-2
 read-line-requires-2 c κs = search needs
 
--- src/feed.rt:115:1
 same-length : tie.Need-same-length
 same-length c = search needs
 
--- src/feed.rt:115:1
 returns-2 : tie.Need-returns-2
 returns-2 c = c .read-line2 .ensures ∙ ap readLine (c .before .before .before .before .hold-part .ensures .0)
 

@@ -2,10 +2,7 @@ use mathlib.Core.Path.{refl}
 use Rattle.rules.specs.State.{deskOf, emptyState}
 use Rattle.runner.proofs.start.empty_desk.Statement.{statement}
 use Rattle.runner.proofs.start.empty_desk.Tie as tie
-use Rattle.runner.proofs.start.empty_desk.Reads as reads
-use Rattle.runner.proofs.start.empty_desk.Lts as lts
 
--- src/start.rt:34:1
 returns : tie.Need-returns
 unfolding deskOf emptyState
 returns c = refl

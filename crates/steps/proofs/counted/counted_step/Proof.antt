@@ -44,13 +44,13 @@ use Rattle.rules.proofs.calls.Line as Ln
 use Rattle.rules.proofs.calls.Line.Laws as Ln′
 use Rattle.rules.proofs.desk.Desk as Dk
 use Rattle.rules.proofs.desk.Desk.Laws as Dk′
-use Rattle.replies.specs.Writing.{page}
+use Rattle.pages.specs.Writing.{page}
 use Rattle.steps.specs.declared.step.Stepped.{Stepped}
-use Rattle.steps.specs.Step.{repliedOf, replied}
+use Rattle.steps.specs.Step.{repliedOf, replied, LineAccepted}
 use Rattle.steps.proofs.step.Stepped as Sp
 use Rattle.steps.proofs.step.Stepped.Laws as Sp′
-use Rattle.history.proofs.Locals.{local, part, slice-at}
-use Rattle.steps.proofs.TwoFacts.{says-both, needs-both}
+use Rattle.takings.proofs.Locals.{local, part, slice-at}
+use Rattle.steps.proofs.TwoFacts.{says-both, needs-three}
 use Rattle.steps.proofs.Values.{Tallies, Desks, machK, Lines, machL, Results, machS, Loan, loan-of, lent, sv, pv, token, last-slice, last-tally}
 use Rattle.steps.proofs.StepCalls.{LineStep, steps-line, Raise, raises}
 use Rattle.steps.proofs.step.line_step.Symbol as line-step-def
@@ -93,8 +93,8 @@ module _ {M : Type 1} (𝓤 : URA M) (H : Heap 𝓤) (A : Atoms 𝓤) (W : Given
       owned ! Results (Is Results) ((LL.makes Sp.the-type Sp′.the-plain) 𝓤 H A) r _ isr $ done !
 
   module _ (𝓣 : Tables 𝓤 H) (known-step : Triple 𝓤 (𝓣 .C #line-step) (LineStep 𝓤 H A mem run)) (known-raise : Triple 𝓤 (𝓣 .C #raise) (Raise 𝓤 H A mem run)) where
-    walk : Is Desks dk (machK dk ∷ []) → Room (UInt w64) (length (inb .now)) → Room (UInt w64) (length (outb .now)) → Room (UInt w64) (length (hist .now)) → Room (UInt w8) (length (out .now)) → at < 2 ^ 64 → line < 2 ^ 64 → Is Lines l (machL l ∷ []) → tal .now .done ≤ 100000 → tal .now .other ≤ 100000 → ent 𝓤 (onEntry 𝓤 H A f.signature (inb .κ, (outb .κ, (hist .κ, (out .κ, (tal .κ, tt))))) (inb .q, (outb .q, (hist .q, (out .q, (tal .q, tt))))) a vals) (WpFn 𝓤 H (𝓣 .C) (𝓣 .Λ) code.function (machK dk ∷ sv inb ∷ sv outb ∷ sv hist ∷ sv out ∷ vint w64 at ∷ vint w64 line ∷ pv tal ∷ machL l ∷ []) Post)
-    walk isdk room-inb room-outb room-hist room-out isat isline isl few few′ =
+    walk : Is Desks dk (machK dk ∷ []) → Room (UInt w64) (length (inb .now)) → Room (UInt w64) (length (outb .now)) → Room (UInt w64) (length (hist .now)) → Room (UInt w8) (length (out .now)) → at < 2 ^ 64 → line < 2 ^ 64 → Is Lines l (machL l ∷ []) → tal .now .done ≤ 100000 → tal .now .other ≤ 100000 → LineAccepted (bookOf dk (inb .now) (outb .now) (hist .now)) l → ent 𝓤 (onEntry 𝓤 H A f.signature (inb .κ, (outb .κ, (hist .κ, (out .κ, (tal .κ, tt))))) (inb .q, (outb .q, (hist .q, (out .q, (tal .q, tt))))) a vals) (WpFn 𝓤 H (𝓣 .C) (𝓣 .Λ) code.function (machK dk ∷ sv inb ∷ sv outb ∷ sv hist ∷ sv out ∷ vint w64 at ∷ vint w64 line ∷ pv tal ∷ machL l ∷ []) Post)
+    walk isdk room-inb room-outb room-hist room-out isat isline isl few few′ acc =
         qed W ((‵ (flft (inb .κ) (inb .q)) ⊛ (‵ (flft (outb .κ) (outb .q)) ⊛ (‵ (flft (hist .κ) (hist .q)) ⊛ (‵ (flft (out .κ) (out .q)) ⊛ (‵ (flft (tal .κ) (tal .q)) ⊛ (‵ ftrue)))))) ∷ ‵ (owns (Desks ∷ MutSlice (named 0) (inb .κ) (UInt w64) ∷ MutSlice (named 1) (outb .κ) (UInt w64) ∷ MutSlice (named 2) (hist .κ) (UInt w64) ∷ MutSlice (named 3) (out .κ) (UInt w8) ∷ usize ∷ u64 ∷ MutRef (named 4) (tal .κ) Tallies ∷ Lines ∷ []) a vals) ∷ []) ∵
         split ! $ move ! (1 ∷ []) $ split ! $ move ! (1 ∷ []) $ split ! $ move ! (1 ∷ []) $ split ! $ move ! (1 ∷ []) $ split ! $ move ! (6 ∷ []) $ fsplit ! $ move ! (1 ∷ []) $ fsplit ! $
         move ! (1 ∷ []) $ fsplit ! $ move ! (1 ∷ []) $ fsplit ! $ move ! (1 ∷ []) $ fsplit ! $ move ! (1 ∷ []) $ fsplit ! $ move ! (1 ∷ []) $ fsplit ! $ move ! (1 ∷ []) $ fsplit ! $
@@ -117,7 +117,7 @@ module _ {M : Type 1} (𝓤 : URA M) (H : Heap 𝓤) (A : Atoms 𝓤) (W : Given
         assigns ! (slice-at ! 40 refl refl refl) (from ! (stop !)) (init ! 16 refl (tt, tt)) $
         assigns ! (agg ! (and-then ! (local ! 16 refl) (and-then ! (part ! 40 1 refl refl refl) (no-more !)))) (from ! (stop !)) (init ! 14 refl (tt, (tt, (record { fits = room-out .0 }, tt)))) $
         -- the step
-        steps-line ! inb outb hist out dk at line l mem run 𝓣 known-step isdk isat isline isl (and-then ! (local ! 41 refl) (and-then ! (local ! 19 refl) (and-then ! (local ! 15 refl) (and-then ! (local ! 11 refl) (and-then ! (local ! 7 refl) (and-then ! (local ! 31 refl) (and-then ! (local ! 29 refl) (and-then ! (local ! 25 refl) (no-more !))))))))) (λ r inb′ outb′ hist′ out′ same-inb same-outb same-hist same-out e isr.
+        steps-line ! inb outb hist out dk at line l mem run 𝓣 known-step isdk isat isline isl acc (and-then ! (local ! 41 refl) (and-then ! (local ! 19 refl) (and-then ! (local ! 15 refl) (and-then ! (local ! 11 refl) (and-then ! (local ! 7 refl) (and-then ! (local ! 31 refl) (and-then ! (local ! 29 refl) (and-then ! (local ! 25 refl) (no-more !))))))))) (λ r inb′ outb′ hist′ out′ same-inb same-outb same-hist same-out e isr.
         land ! (from ! (stop !)) (init ! 30 refl (LL.lawful Sp.the-type Sp′.the-laws 𝓤 H A W .typed r _ isr .0)) $
         -- and the tally is raised
         assigns ! (addr ! (from ! (hop ! (look ! 34 refl) (stop !)))) (from ! (stop !)) (init ! 10 refl (tt, tt)) $
@@ -138,7 +138,7 @@ module _ {M : Type 1} (𝓤 : URA M) (H : Heap 𝓤) (A : Atoms 𝓤) (W : Given
 module _ {M : Type 1} (𝓤 : URA M) (H : Heap 𝓤) (A : Atoms 𝓤) (W : Given 𝓤 H A) (mem : Memory → SProp 𝓤) (run : Routine → Fun 𝓤) (𝓣 : Tables 𝓤 H) (known-step : Triple 𝓤 (𝓣 .C #line-step) (LineStep 𝓤 H A mem run)) (known-raise : Triple 𝓤 (𝓣 .C #raise) (Raise 𝓤 H A mem run)) where
   counted-step-walks : Walks 𝓤 H A f.ended stayed (WpFn 𝓤 H (𝓣 .C) (𝓣 .Λ) code.function) (f.clauses 𝓤 H A mem run)
   counted-step-walks = walked 𝓤 H A f.ended stayed (f.clauses 𝓤 H A mem run) (WpFn 𝓤 H (𝓣 .C) (𝓣 .Λ) code.function) (λ κs. (LL.vals Dk.the-type Dk′.the-laws, (slice-vals, (slice-vals, (slice-vals, (slice-vals, (uint-vals w64, (uint-vals w64, (ptr-vals, (LE.vals Ln.the-type Ln′.the-laws, tt)))))))))) (λ κs. (LL.tells Dk.the-type Dk′.the-laws, (mut-slice-tells (named 0) (κs .0) (UInt w64), (mut-slice-tells (named 1) (κs .1 .0) (UInt w64), (mut-slice-tells (named 2) (κs .1 .1 .0) (UInt w64), (mut-slice-tells (named 3) (κs .1 .1 .1 .0) (UInt w8), (uint-tells w64, (uint-tells w64, (mut-tells (named 4) (κs .1 .1 .1 .1 .0) Tallies, (LE.tells Ln.the-type Ln′.the-laws, tt))))))))))
-      (λ κs qs bounds a g are. needs-both 𝓤 (a .1 .1 .1 .1 .1 .1 .1 .0 .now .done ≤ 100000) (a .1 .1 .1 .1 .1 .1 .1 .0 .now .other ≤ 100000) _
+      (λ κs qs bounds a g are. needs-three 𝓤 (a .1 .1 .1 .1 .1 .1 .1 .0 .now .done ≤ 100000) (a .1 .1 .1 .1 .1 .1 .1 .0 .now .other ≤ 100000) (LineAccepted (bookOf (a .0) (a .1 .0 .now) (a .1 .1 .0 .now) (a .1 .1 .1 .0 .now)) (a .1 .1 .1 .1 .1 .1 .1 .1 .0)) _
       (walk 𝓤 H A W mem run (loan-of (κs .0) (qs .0) (a .1 .0)) (loan-of (κs .1 .0) (qs .1 .0) (a .1 .1 .0)) (loan-of (κs .1 .1 .0) (qs .1 .1 .0) (a .1 .1 .1 .0)) (loan-of (κs .1 .1 .1 .0) (qs .1 .1 .1 .0) (a .1 .1 .1 .1 .0)) (a .0) (a .1 .1 .1 .1 .1 .0) (a .1 .1 .1 .1 .1 .1 .0) (loan-of (κs .1 .1 .1 .1 .0) (qs .1 .1 .1 .1 .0) (a .1 .1 .1 .1 .1 .1 .1 .0)) (a .1 .1 .1 .1 .1 .1 .1 .1 .0) 𝓣 known-step known-raise (are .0) (are .1 .0 .0 .1) (are .1 .1 .0 .0 .1) (are .1 .1 .1 .0 .0 .1) (are .1 .1 .1 .1 .0 .0 .1) (are .1 .1 .1 .1 .1 .0 .1) (are .1 .1 .1 .1 .1 .1 .0 .1) (are .1 .1 .1 .1 .1 .1 .1 .1 .0)))
 
   counted-step-meets : Meets 𝓤 H A f.signature (WpFn 𝓤 H (𝓣 .C) (𝓣 .Λ) code.function) (f.spec 𝓤 H A mem run)

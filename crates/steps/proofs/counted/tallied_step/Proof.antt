@@ -52,16 +52,16 @@ use Rattle.rules.proofs.calls.Line as Ln
 use Rattle.rules.proofs.calls.Line.Laws as Ln′
 use Rattle.rules.proofs.desk.Desk as Dk
 use Rattle.rules.proofs.desk.Desk.Laws as Dk′
-use Rattle.replies.specs.Writing.{page}
+use Rattle.pages.specs.Writing.{page}
 use Rattle.steps.specs.declared.step.Stepped.{Stepped}
 use Rattle.steps.specs.declared.counted.Tallied.{Tallied}
-use Rattle.steps.specs.Step.{repliedOf, replied}
+use Rattle.steps.specs.Step.{repliedOf, replied, LineAccepted}
 use Rattle.steps.proofs.step.Stepped as Sp
 use Rattle.steps.proofs.step.Stepped.Laws as Sp′
 use Rattle.steps.proofs.counted.Tallied as Td
 use Rattle.steps.proofs.counted.Tallied.Laws as Td′
-use Rattle.history.proofs.Locals.{local, part, slice-at}
-use Rattle.steps.proofs.TwoFacts.{says-both, needs-both}
+use Rattle.takings.proofs.Locals.{local, part, slice-at}
+use Rattle.steps.proofs.TwoFacts.{says-both, needs-three}
 use Rattle.steps.proofs.Values.{Tallies, machT, Desks, machK, Lines, machL, Results, machS, Loan, loan-of, lent, sv, tally, token, last-slice}
 use Rattle.steps.proofs.StepCalls.{CountedStep, steps-counted}
 use Rattle.steps.proofs.counted.counted_step.Symbol as counted-step-def
@@ -114,9 +114,9 @@ module _ {M : Type 1} (𝓤 : URA M) (H : Heap 𝓤) (A : Atoms 𝓤) (W : Given
   lent-local l ν δ = record { κ = ν ∷ []; q = fullShare; γ = δ; b = l; o = 0; now = h }
 
   module _ (𝓣 : Tables 𝓤 H) (known-counted : Triple 𝓤 (𝓣 .C #counted-step) (CountedStep 𝓤 H A mem run)) where
-    walk : Is Desks dk (machK dk ∷ []) → Room (UInt w64) (length (inb .now)) → Room (UInt w64) (length (outb .now)) → Room (UInt w64) (length (hist .now)) → Room (UInt w8) (length (out .now)) → at < 2 ^ 64 → line < 2 ^ 64 → Is Tallies h (machT h ∷ []) → Is Lines l (machL l ∷ []) → h .done ≤ 100000 → h .other ≤ 100000 → ent 𝓤 (onEntry 𝓤 H A f.signature (inb .κ, (outb .κ, (hist .κ, (out .κ, tt)))) (inb .q, (outb .q, (hist .q, (out .q, tt)))) a vals) (WpFn 𝓤 H (𝓣 .C) (𝓣 .Λ) code.function (machK dk ∷ sv inb ∷ sv outb ∷ sv hist ∷ sv out ∷ vint w64 at ∷ vint w64 line ∷ machT h ∷ machL l ∷ []) Post)
+    walk : Is Desks dk (machK dk ∷ []) → Room (UInt w64) (length (inb .now)) → Room (UInt w64) (length (outb .now)) → Room (UInt w64) (length (hist .now)) → Room (UInt w8) (length (out .now)) → at < 2 ^ 64 → line < 2 ^ 64 → Is Tallies h (machT h ∷ []) → Is Lines l (machL l ∷ []) → h .done ≤ 100000 → h .other ≤ 100000 → LineAccepted (bookOf dk (inb .now) (outb .now) (hist .now)) l → ent 𝓤 (onEntry 𝓤 H A f.signature (inb .κ, (outb .κ, (hist .κ, (out .κ, tt)))) (inb .q, (outb .q, (hist .q, (out .q, tt)))) a vals) (WpFn 𝓤 H (𝓣 .C) (𝓣 .Λ) code.function (machK dk ∷ sv inb ∷ sv outb ∷ sv hist ∷ sv out ∷ vint w64 at ∷ vint w64 line ∷ machT h ∷ machL l ∷ []) Post)
     unfolding partOf
-    walk isdk room-inb room-outb room-hist room-out isat isline ish isl few few′ =
+    walk isdk room-inb room-outb room-hist room-out isat isline ish isl few few′ acc =
         qed W ((‵ (flft (inb .κ) (inb .q)) ⊛ (‵ (flft (outb .κ) (outb .q)) ⊛ (‵ (flft (hist .κ) (hist .q)) ⊛ (‵ (flft (out .κ) (out .q)) ⊛ (‵ ftrue))))) ∷ ‵ (owns (Desks ∷ MutSlice (named 0) (inb .κ) (UInt w64) ∷ MutSlice (named 1) (outb .κ) (UInt w64) ∷ MutSlice (named 2) (hist .κ) (UInt w64) ∷ MutSlice (named 3) (out .κ) (UInt w8) ∷ usize ∷ u64 ∷ Tallies ∷ Lines ∷ []) a vals) ∷ []) ∵
         split ! $ move ! (1 ∷ []) $ split ! $ move ! (1 ∷ []) $ split ! $ move ! (1 ∷ []) $ split ! $ move ! (5 ∷ []) $ fsplit ! $ move ! (1 ∷ []) $ fsplit ! $ move ! (1 ∷ []) $ fsplit ! $
         move ! (1 ∷ []) $ fsplit ! $ move ! (1 ∷ []) $ fsplit ! $ keep ! (4 ∷ 10 ∷ 3 ∷ 9 ∷ 2 ∷ 8 ∷ 0 ∷ 6 ∷ []) $
@@ -147,7 +147,7 @@ module _ {M : Type 1} (𝓤 : URA M) (H : Heap 𝓤) (A : Atoms 𝓤) (W : Given
         use1 W (later (some (λ (δ : GName). tally (lent-local l₁₀ ν δ) ⊛ ‵ (flent (ν ∷ []) (Body (at-mem Tallies) l₁₀ 0 δ))))) (lends-ref 𝓤 H A W Tallies (named 0) (ν ∷ []) h l₁₀ 0) $ await ! tt $ pick ! (λ δ. split ! $
         move ! (3 ∷ 4 ∷ 5 ∷ 6 ∷ 7 ∷ 8 ∷ 9 ∷ 10 ∷ 0 ∷ 2 ∷ []) $
         -- [what is lent, each with its token, the tally last; the lender's part; the locals, without the cell that is lent]
-        steps-counted ! inb outb hist out (lent-local l₁₀ ν δ) dk at line l mem run 𝓣 known-counted few few′ isdk isat isline isl (and-then ! (local ! 41 refl) (and-then ! (local ! 18 refl) (and-then ! (local ! 14 refl) (and-then ! (local ! 10 refl) (and-then ! (local ! 6 refl) (and-then ! (local ! 31 refl) (and-then ! (local ! 29 refl) (and-then ! (local ! 4 refl) (and-then ! (local ! 25 refl) (no-more !)))))))))) (λ s inb′ outb′ hist′ out′ t same-inb same-outb same-hist same-out e e′ iss.
+        steps-counted ! inb outb hist out (lent-local l₁₀ ν δ) dk at line l mem run 𝓣 known-counted few few′ isdk isat isline isl acc (and-then ! (local ! 41 refl) (and-then ! (local ! 18 refl) (and-then ! (local ! 14 refl) (and-then ! (local ! 10 refl) (and-then ! (local ! 6 refl) (and-then ! (local ! 31 refl) (and-then ! (local ! 29 refl) (and-then ! (local ! 4 refl) (and-then ! (local ! 25 refl) (no-more !)))))))))) (λ s inb′ outb′ hist′ out′ t same-inb same-outb same-hist same-out e e′ iss.
         -- the lifetime is ended, and the local is back at the step's last value
         move ! (9 ∷ 10 ∷ 8 ∷ []) $ lft-end ! tt $ use3 W (later (‵ (at-mem Tallies .lies t l₁₀ 0))) (ref-back 𝓤 H A W Tallies (ν ∷ []) δ t l₁₀ 0) $ await ! tt $
         fpick ! (λ vs. fsplit ! $ spelt ! Tallies (Is Tallies) (shows 𝓤 H A Tallies) (LL.vals T.the-type T′.the-laws) (LL.tells T.the-type T′.the-laws) fullShare t vs l₁₀ 0 $
@@ -168,7 +168,7 @@ module _ {M : Type 1} (𝓤 : URA M) (H : Heap 𝓤) (A : Atoms 𝓤) (W : Given
 module _ {M : Type 1} (𝓤 : URA M) (H : Heap 𝓤) (A : Atoms 𝓤) (W : Given 𝓤 H A) (mem : Memory → SProp 𝓤) (run : Routine → Fun 𝓤) (𝓣 : Tables 𝓤 H) (known-counted : Triple 𝓤 (𝓣 .C #counted-step) (CountedStep 𝓤 H A mem run)) where
   tallied-step-walks : Walks 𝓤 H A f.ended stayed (WpFn 𝓤 H (𝓣 .C) (𝓣 .Λ) code.function) (f.clauses 𝓤 H A mem run)
   tallied-step-walks = walked 𝓤 H A f.ended stayed (f.clauses 𝓤 H A mem run) (WpFn 𝓤 H (𝓣 .C) (𝓣 .Λ) code.function) (λ κs. (LL.vals Dk.the-type Dk′.the-laws, (slice-vals, (slice-vals, (slice-vals, (slice-vals, (uint-vals w64, (uint-vals w64, (LL.vals T.the-type T′.the-laws, (LE.vals Ln.the-type Ln′.the-laws, tt)))))))))) (λ κs. (LL.tells Dk.the-type Dk′.the-laws, (mut-slice-tells (named 0) (κs .0) (UInt w64), (mut-slice-tells (named 1) (κs .1 .0) (UInt w64), (mut-slice-tells (named 2) (κs .1 .1 .0) (UInt w64), (mut-slice-tells (named 3) (κs .1 .1 .1 .0) (UInt w8), (uint-tells w64, (uint-tells w64, (LL.tells T.the-type T′.the-laws, (LE.tells Ln.the-type Ln′.the-laws, tt))))))))))
-      (λ κs qs bounds a g are. needs-both 𝓤 (a .1 .1 .1 .1 .1 .1 .1 .0 .done ≤ 100000) (a .1 .1 .1 .1 .1 .1 .1 .0 .other ≤ 100000) _
+      (λ κs qs bounds a g are. needs-three 𝓤 (a .1 .1 .1 .1 .1 .1 .1 .0 .done ≤ 100000) (a .1 .1 .1 .1 .1 .1 .1 .0 .other ≤ 100000) (LineAccepted (bookOf (a .0) (a .1 .0 .now) (a .1 .1 .0 .now) (a .1 .1 .1 .0 .now)) (a .1 .1 .1 .1 .1 .1 .1 .1 .0)) _
       (walk 𝓤 H A W mem run (loan-of (κs .0) (qs .0) (a .1 .0)) (loan-of (κs .1 .0) (qs .1 .0) (a .1 .1 .0)) (loan-of (κs .1 .1 .0) (qs .1 .1 .0) (a .1 .1 .1 .0)) (loan-of (κs .1 .1 .1 .0) (qs .1 .1 .1 .0) (a .1 .1 .1 .1 .0)) (a .0) (a .1 .1 .1 .1 .1 .0) (a .1 .1 .1 .1 .1 .1 .0) (a .1 .1 .1 .1 .1 .1 .1 .0) (a .1 .1 .1 .1 .1 .1 .1 .1 .0) 𝓣 known-counted (are .0) (are .1 .0 .0 .1) (are .1 .1 .0 .0 .1) (are .1 .1 .1 .0 .0 .1) (are .1 .1 .1 .1 .0 .0 .1) (are .1 .1 .1 .1 .1 .0 .1) (are .1 .1 .1 .1 .1 .1 .0 .1) (are .1 .1 .1 .1 .1 .1 .1 .0) (are .1 .1 .1 .1 .1 .1 .1 .1 .0)))
 
   tallied-step-meets : Meets 𝓤 H A f.signature (WpFn 𝓤 H (𝓣 .C) (𝓣 .Λ) code.function) (f.spec 𝓤 H A mem run)

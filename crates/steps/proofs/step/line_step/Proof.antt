@@ -1,52 +1,39 @@
-use mathlib.Core.Path.{_≡_, refl, sym, ap, _∙_}
+use mathlib.Core.Path.{sym, ap, _∙_}
 use Rattle.rules.specs.State.{Book}
 use Rattle.rules.specs.Answer.{bookOf}
 use Rattle.rules.specs.Transcript.{answerLine}
 use Rattle.rules.specs.declared.calls.Line.{Line}
-use Rattle.replies.specs.Writing.{page}
+use Rattle.pages.specs.Writing.{page}
 use Rattle.steps.specs.Step.{replied}
 use Rattle.steps.proofs.Steps.{plain-replied}
 use borrow.Author.Needs.{needs}
 use Rattle.steps.proofs.step.line_step.Statement.{statement}
 use Rattle.steps.proofs.step.line_step.Tie as tie
-use Rattle.steps.proofs.step.line_step.Reads as reads
-use Rattle.steps.proofs.step.line_step.Lts as lts
-use Rattle.steps.proofs.step.put_answered.Reads as put-answered-reads
-use Rattle.steps.proofs.step.step.Reads as step-reads
 
--- src/step.rt:40:21
 enum-known-l : tie.Need-enum-known-l
 enum-known-l c = search needs
 
--- src/step.rt:40:27
 step-requires : tie.Need-step-requires
-step-requires c κs = search needs
+step-requires c κs = c .before .before .before .before .before .before .before .before .before .before .before .pre .accepts _ (c .before .before .before .before .before .l .given .1)
 
--- src/step.rt:42:17
 enum-told : tie.Need-enum-told
 enum-told c = search needs
 
--- src/step.rt:44:13
 put-answered-requires : tie.Need-put-answered-requires
 put-answered-requires c κs = search needs
 
--- src/step.rt:27:1
 same-length : tie.Need-same-length
 same-length c = search needs
 
--- src/step.rt:27:1
 same-length-2 : tie.Need-same-length-2
 same-length-2 c = search needs
 
--- src/step.rt:27:1
 same-length-3 : tie.Need-same-length-3
 same-length-3 c = search needs
 
--- src/step.rt:27:1
 same-length-4 : tie.Need-same-length-4
 same-length-4 c = search needs
 
--- src/step.rt:27:1
 returns : tie.Need-returns
 unfolding answerLine
 returns c =
@@ -54,11 +41,9 @@ returns c =
     let b : Book = bookOf (a .d) (a .inbox .now) (a .outbox .now) (a .history .now) in
     c .before .before .before .before .before .before .before .before .step .ensures ∙ sym (ap (λ (l : Line). replied (a .line) (page (a .out .now) (a .at)) (answerLine b l)) (c .before .before .before .before .before .before .before .before .before .before .before .before .before .before .l .given .1))
 
--- src/step.rt:27:1
 same-length-5 : tie.Need-same-length-5
 same-length-5 c = search needs
 
--- src/step.rt:27:1
 returns-2 : tie.Need-returns-2
 unfolding answerLine
 returns-2 c =

@@ -2,22 +2,16 @@ use Rattle.steps.proofs.Pages.{raised-done, raised-other}
 use borrow.Author.Needs.{needs}
 use Rattle.steps.proofs.tally.raised.Statement.{statement}
 use Rattle.steps.proofs.tally.raised.Tie as tie
-use Rattle.steps.proofs.tally.raised.Reads as reads
-use Rattle.steps.proofs.tally.raised.Lts as lts
 
--- src/tally.rt:15:19
 add-t5 : tie.Need-add-t5
 add-t5 c = search needs
 
--- src/tally.rt:21:20
 add-t6 : tie.Need-add-t6
 add-t6 c = search needs
 
--- src/tally.rt:8:1
 returns : tie.Need-returns
 returns c = raised-done (c .before .before .args .t) (c .before .before .args .n) (c .before .if1 .taken)
 
--- src/tally.rt:8:1
 returns-2 : tie.Need-returns-2
 returns-2 c = raised-other (c .before .before .args .t) (c .before .before .args .n) (c .before .if1 .left)
 

@@ -19,7 +19,7 @@ use contract.Monad.{Fun}
 use contract.Running.{givenOf, tables, tablesOf}
 use sound.WpLaws.{WpFn-mono}
 use types.Kit.{Given, Item, ‵, _⊛_, ⋆, atRet, _$_, _∵_, !, qed, by, move, keep, split, join, fsplit, fjoin, suffices, frame, done}
-use types.Part.{agg, whole}
+use types.Part.{agg}
 use types.Run.{look, store, init, forget, stop, from, lit, and-then, no-more, of-opd, bin, assigns, assigns-last, land, returns, exec, first, blocks, loops, again, enter, alloc1, alloc0, params1, pass1, pass0, free1, free0}
 use denote.Exit.{yes}
 use denote.RattleType.{owns}
@@ -46,16 +46,16 @@ use Rattle.rules.specs.Lots.{noLot}
 use Rattle.rules.specs.Transcript.{pieceValues}
 use Rattle.rules.proofs.rows.Lot as T
 use Rattle.rules.proofs.rows.Lot.Laws as T′
-use Rattle.history.proofs.Loop.{tests, below, next-fits, less, less-wf}
-use Rattle.history.proofs.Locals.{local, part, slice-at}
-use Rattle.history.proofs.Values.{R, at-list, sv, word, refimm, places, cell, spare}
-use Rattle.history.proofs.LotCalls.{LotRead, reads-lot}
-use Rattle.replies.specs.Writing.{page, put}
+use Rattle.takings.proofs.Loop.{tests, below, next-fits, less, less-wf}
+use Rattle.takings.proofs.Locals.{local, part, slice-at}
+use Rattle.takings.proofs.Values.{R, at-list, sv, word, refimm, places, cell, spare}
+use Rattle.takings.proofs.LotCalls.{LotRead, reads-lot}
+use Rattle.pages.specs.Writing.{page, put}
 use Rattle.steps.proofs.Pages.{piecesText, no-pieces, more-pieces, pieces-end}
 use Rattle.steps.proofs.LineCalls.{PutPiece, puts-piece}
-use Rattle.history.proofs.rows.lot_at.Symbol as lot-at-def
-use Rattle.history.proofs.rows.lot_at.Symbol.{name as #lot-at}
-use Rattle.history.proofs.rows.lot_at.Met as lot-at-thm
+use Rattle.takings.proofs.rows.lot_at.Symbol as lot-at-def
+use Rattle.takings.proofs.rows.lot_at.Symbol.{name as #lot-at}
+use Rattle.takings.proofs.rows.lot_at.Met as lot-at-thm
 use Rattle.replies.proofs.put_piece.Symbol as put-piece-def
 use Rattle.replies.proofs.put_piece.Symbol.{name as #put-piece}
 use Rattle.replies.proofs.put_piece.Met as put-piece-thm
@@ -196,5 +196,5 @@ put-pieces-spec 𝓤 H 𝓜 𝓖 𝓡 =
     entered 𝓤 H (tripleOf 𝓤 H (𝓖 .A) f.signature (f.spec 𝓤 H (𝓖 .A) (𝓜 .mem) (𝓡 .run)))
     (tables 𝓤 H 𝓜 𝓡 code.env .C) (tables 𝓤 H 𝓜 𝓡 code.env .Λ) #put-pieces code.function (code.unfolded 𝓤 H 𝓜 𝓡)
     (put-pieces-meets 𝓤 H (𝓖 .A) (givenOf 𝓤 H 𝓜 𝓖) (𝓜 .mem) (𝓡 .run) (tablesOf 𝓤 H 𝓜 (tables 𝓤 H 𝓜 𝓡 code.env))
-    (cited 𝓤 H (LotRead 𝓤 H (𝓖 .A) (𝓜 .mem) (𝓡 .run)) 𝓜 𝓡 code.env #lot-at lot-at-def.routine code.calls-history·rows·lot-at (lot-at-thm.met 𝓤 H 𝓜 𝓖 𝓡))
+    (cited 𝓤 H (LotRead 𝓤 H (𝓖 .A) (𝓜 .mem) (𝓡 .run)) 𝓜 𝓡 code.env #lot-at lot-at-def.routine code.calls-takings·rows·lot-at (lot-at-thm.met 𝓤 H 𝓜 𝓖 𝓡))
     (cited 𝓤 H (PutPiece 𝓤 H (𝓖 .A) (𝓜 .mem) (𝓡 .run)) 𝓜 𝓡 code.env #put-piece put-piece-def.routine code.calls-replies·put-piece (put-piece-thm.met 𝓤 H 𝓜 𝓖 𝓡)))

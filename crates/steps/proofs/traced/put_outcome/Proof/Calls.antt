@@ -1,4 +1,4 @@
--- The calls that `put_outcome` makes of this module's functions, as steps of a walk, as in `Rattle.history.proofs.LotCalls`.
+-- The calls that `put_outcome` makes of this module's functions, as steps of a walk, as in `Rattle.takings.proofs.LotCalls`.
 --     counts-pieces     `piece_count(a)`.        puts-pieces     `put_pieces(out, at, pieces, n)`
 -- Assumes `Given`.
 use mathlib.Core.Path.{_≡_, refl, sym, ap, subst}
@@ -30,7 +30,7 @@ use denote.Triple.Spec.{tripleOf}
 use denote.Triple.Statement.{Contract, Triple}
 use denote.Triple.Call.{calls-at}
 use denote.Triple.Clauses.{ensured, lasts}
-use Rattle.history.proofs.Again.{LentAgain, lends-again-n, comes-back-n}
+use Rattle.takings.proofs.Again.{LentAgain, lends-again-n, comes-back-n}
 use Rattle.rules.specs.declared.rows.Lot.{Lot}
 use Rattle.rules.specs.declared.answers.Answer.{Answer}
 use Rattle.rules.specs.Lists.{joined}
@@ -38,8 +38,8 @@ use Rattle.rules.specs.Lines.{tabbed}
 use Rattle.rules.specs.Transcript.{pieceValues}
 use Rattle.rules.proofs.answers.Answer as An
 use Rattle.rules.proofs.answers.Answer.Laws as An′
-use Rattle.history.proofs.Values.{R, Answers, machA, at-list, sv}
-use Rattle.replies.specs.Writing.{page, put}
+use Rattle.takings.proofs.Values.{R, Answers, machA, at-list, sv}
+use Rattle.pages.specs.Writing.{page, put}
 use Rattle.steps.specs.Step.{handedCount}
 use Rattle.steps.proofs.traced.piece_count as piece-count
 use Rattle.steps.proofs.traced.piece_count.Symbol.{name as #piece-count}

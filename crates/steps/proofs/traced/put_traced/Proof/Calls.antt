@@ -1,4 +1,4 @@
--- The calls that `put_traced` makes of this module's functions, as steps of a walk, as in `Rattle.history.proofs.LotCalls`.
+-- The calls that `put_traced` makes of this module's functions, as steps of a walk, as in `Rattle.takings.proofs.LotCalls`.
 --     puts-outcome     `put_outcome(out, at, line, a, pieces)`, of a table that the caller may write.        leaves     `stepped(d, a, at)`
 -- Assumes `Given`.
 use mathlib.Core.Path.{_≡_, refl, sym, ap, subst}
@@ -31,7 +31,7 @@ use denote.Triple.Spec.{tripleOf}
 use denote.Triple.Statement.{Contract, Triple}
 use denote.Triple.Call.{calls-at}
 use denote.Triple.Clauses.{ensured, lasts}
-use Rattle.history.proofs.Again.{LentAgain, lends-again-n, comes-back-n, SharedAgain, shares-again-n, shared-back-n}
+use Rattle.takings.proofs.Again.{LentAgain, lends-again-n, comes-back-n, SharedAgain, shares-again-n, shared-back-n}
 use Rattle.rules.specs.declared.rows.Lot.{Lot}
 use Rattle.rules.specs.declared.desk.Desk.{Desk}
 use Rattle.rules.specs.declared.answers.Answer.{Answer}
@@ -39,8 +39,8 @@ use Rattle.rules.proofs.desk.Desk as Dk
 use Rattle.rules.proofs.desk.Desk.Laws as Dk′
 use Rattle.rules.proofs.answers.Answer as An
 use Rattle.rules.proofs.answers.Answer.Laws as An′
-use Rattle.history.proofs.Values.{R, Desks, machK, Answers, machA, at-list, sv}
-use Rattle.replies.specs.Writing.{page, put}
+use Rattle.takings.proofs.Values.{R, Desks, machK, Answers, machA, at-list, sv}
+use Rattle.pages.specs.Writing.{page, put}
 use Rattle.steps.specs.declared.step.Stepped.{Stepped}
 use Rattle.steps.specs.Step.{steppedOf, answerText}
 use Rattle.steps.proofs.step.Stepped as St

@@ -1,0 +1,174 @@
+-- The loops of the field reader: what is left after i bytes, one byte more, and the end.
+use Prim.Native.Nat.{ℕ, suc, _+_, _-_, _*_, _≤_, _<_}
+use mathlib.Core.Path.{_≡_, refl, sym, ap, _∙_}
+use mathlib.Core.Bool.{Bool, true, false, not, _&&_, cond, and-false, and-true}
+use mathlib.Core.List.{List, [], _∷_}
+use native.Mathlib.Numerals.{add-one}
+use native.Mathlib.Omega.{arith}
+use lib.Dec.{leb, eqb}
+use lib.ListN.{length, getD, take, drop, length-drop, drop-of-length-le}
+use lib.Seq.{drop-cons, take-all}
+use borrow.Author.Tests.{eq-eqb, ne-eqb, le-ltb, lt-ltb, le-leb, lt-leb, leb-false}
+use Rattle.rules.specs.declared.calls.Field.{Field}
+use Rattle.rules.specs.Limits.{highestField}
+use Rattle.rules.specs.Lists.{all, indexOf}
+use Rattle.rules.specs.Lines.{tab, fieldEnd, firstField, isDigit, valueAfter, leadingZero, readsAsNumber, number}
+use Rattle.fields.specs.declared.ReadField.{ReadField}
+use Rattle.fields.specs.Reading.{oneMore, digitsAfter, isShaped, nextField, placed, nextEnd, nextRead, digitsRead, taken}
+
+-- ---- where the field ends
+module _ (s : List ℕ) (i : ℕ) where
+  pub end-here : i < length s → getD s i 0 ≡ tab → fieldEnd (drop i s) ≡ 0
+  unfolding fieldEnd indexOf
+  end-here h e = rw (drop-cons s i 0 h, eq-eqb tab (getD s i 0) (sym e))
+
+  pub end-later : i < length s → (getD s i 0 ≡ tab → ⊥) → fieldEnd (drop i s) ≡ suc (fieldEnd (drop (i + 1) s))
+  unfolding fieldEnd indexOf
+  end-later h e = rw (add-one i, drop-cons s i 0 h, ne-eqb tab (getD s i 0) (λ q. e (sym q)))
+
+  pub end-none : length s ≤ i → fieldEnd (drop i s) ≡ 0
+  unfolding fieldEnd indexOf
+  end-none h = rw (drop-of-length-le s h)
+
+pub end-within : (s : List ℕ) → fieldEnd s ≤ length s
+unfolding fieldEnd indexOf
+end-within [] = omega arith
+end-within (b ∷ s) = go (eqb tab b) (end-within s)
+  where
+    go : (t : Bool) → fieldEnd s ≤ length s → cond t 0 (suc (fieldEnd s)) ≤ suc (length s)
+    go true h = omega arith
+    go false h = omega arith
+
+-- a part from a place on, as the code takes it
+pub from-on : {A : Type 0} (s : List A) (a : ℕ) → take (length s - a) (drop a s) ≡ drop a s
+from-on s a = take-all (length s - a) (drop a s) (rw (lib.ListN.length-drop a s) (omega arith))
+
+-- ---- digits
+-- a value only grows as digits follow
+pub value-grows : (v : ℕ) (f : List ℕ) → v ≤ valueAfter v f
+unfolding valueAfter
+value-grows v [] = omega arith
+value-grows v (b ∷ f) = omega (arith, value-grows (v * 10 + (b - 48)) f)
+
+-- one digit more, and then the others; where it makes no number, there is none
+pub more : (v b : ℕ) (f : List ℕ) → digitsAfter v (b ∷ f) ≡ taken Field.NotANumber (λ n. digitsAfter n f) (oneMore v b)
+unfolding digitsAfter oneMore taken all valueAfter
+more v b f = go (isDigit b) refl (leb (v * 10 + (b - 48)) highestField) refl
+  where
+    go : (p : Bool) → isDigit b ≡ p → (q : Bool) → leb (v * 10 + (b - 48)) highestField ≡ q
+        → digitsAfter v (b ∷ f) ≡ taken Field.NotANumber (λ n. digitsAfter n f) (oneMore v b)
+    go false d q e = rw d
+    go true d false e =
+        let big : highestField < valueAfter (v * 10 + (b - 48)) f = omega (arith, leb-false (v * 10 + (b - 48)) highestField e, value-grows (v * 10 + (b - 48)) f) in
+        rw (d, e, lt-leb (valueAfter (v * 10 + (b - 48)) f) highestField big, and-false)
+    go true d true e = rw (d, e)
+
+-- what is read from place i on, after the value so far: the number, and the field's end
+unfoldable pub readFrom : List ℕ → ℕ → ℕ → ReadField
+readFrom s v i = placed (i + fieldEnd (drop i s)) (digitsAfter v (firstField (drop i s)))
+
+pub from-first : (s : List ℕ) → digitsRead s ≡ readFrom s 0 1
+unfolding digitsRead nextEnd readFrom
+from-first s = refl
+
+module _ (s : List ℕ) (v i : ℕ) where
+  -- the field ends here
+  pub from-end : fieldEnd (drop i s) ≡ 0 → v ≤ highestField → readFrom s v i ≡ ReadField.Number v i
+  unfolding readFrom placed digitsAfter all valueAfter
+  from-end e l = rw (e, le-leb v highestField l) (ap (ReadField.Number v) (omega arith))
+
+  -- or it has this byte and those after it
+  from-later : i < length s → (getD s i 0 ≡ tab → ⊥)
+      → readFrom s v i ≡ placed (i + 1 + fieldEnd (drop (i + 1) s)) (taken Field.NotANumber (λ n. digitsAfter n (firstField (drop (i + 1) s))) (oneMore v (getD s i 0)))
+  unfolding readFrom
+  from-later h e =
+      let k = fieldEnd (drop (i + 1) s) in
+      let p : i + suc k ≡ i + 1 + k = omega arith in
+      rw (end-later s i h e, p)
+      (ap (placed (i + 1 + k)) (rw (drop-cons s i 0 h, ← add-one i) (more v (getD s i 0) (take k (drop (i + 1) s)))))
+
+  pub from-not : i < length s → (getD s i 0 ≡ tab → ⊥) → oneMore v (getD s i 0) ≡ Field.NotANumber → readFrom s v i ≡ ReadField.NotANumber
+  unfolding taken placed
+  from-not h e q = from-later h e ∙ rw q
+
+  pub from-more : {n : ℕ} → i < length s → (getD s i 0 ≡ tab → ⊥) → oneMore v (getD s i 0) ≡ Field.Number n → readFrom s v i ≡ readFrom s n (i + 1)
+  unfolding taken readFrom
+  from-more h e q = from-later h e ∙ rw q
+
+-- ---- the number of a field: its shape and its digits
+number-shaped : (f : List ℕ) → number f ≡ cond (isShaped f) (digitsAfter 0 f) Field.NotANumber
+unfolding number readsAsNumber isShaped digitsAfter
+number-shaped f = go (leb 1 (length f)) (leb (length f) 20) (all isDigit f) (leadingZero f) (leb (valueAfter 0 f) highestField)
+  where
+    go : (a b d z l : Bool)
+        → cond (a && b && (d && (not z && l))) (Field.Number (valueAfter 0 f)) Field.NotANumber
+        ≡ cond (a && b && not z) (cond (d && l) (Field.Number (valueAfter 0 f)) Field.NotANumber) Field.NotANumber
+    go false b d z l = refl
+    go true false d z l = refl
+    go true true false true l = refl
+    go true true false false l = refl
+    go true true true true l = refl
+    go true true true false l = refl
+
+placed-cond : (t : Bool) (end : ℕ) (f : Field) → placed end (cond t f Field.NotANumber) ≡ cond t (placed end f) ReadField.NotANumber
+unfolding placed
+placed-cond true end f = refl
+placed-cond false end f = refl
+
+-- ---- the field after a tab
+pub next-none : (s : List ℕ) → length s ≡ 0 → nextRead s ≡ ReadField.NotANumber
+unfolding nextRead nextField placed
+next-none [] h = refl
+next-none (t ∷ rest) h = absurd (omega arith)
+
+next-shaped : (s : List ℕ) → 1 ≤ length s → nextRead s ≡ cond (isShaped (firstField (drop 1 s))) (digitsRead s) ReadField.NotANumber
+unfolding nextRead nextField digitsRead
+next-shaped [] h = absurd (omega arith)
+next-shaped (t ∷ rest) h =
+    ap (placed (nextEnd (t ∷ rest))) (number-shaped (firstField rest))
+    ∙ placed-cond (isShaped (firstField rest)) (nextEnd (t ∷ rest)) (digitsAfter 0 (firstField rest))
+
+module _ (s : List ℕ) (h : 1 ≤ length s) where
+  pub next-not : digitsRead s ≡ ReadField.NotANumber → nextRead s ≡ ReadField.NotANumber
+  next-not e = next-shaped s h ∙ rw e (go (isShaped (firstField (drop 1 s))))
+    where
+      go : (t : Bool) → cond t ReadField.NotANumber ReadField.NotANumber ≡ ReadField.NotANumber
+      go true = refl
+      go false = refl
+
+  pub next-misshaped : isShaped (firstField (drop 1 s)) ≡ false → nextRead s ≡ ReadField.NotANumber
+  next-misshaped e = next-shaped s h ∙ rw e
+
+  pub next-read : isShaped (firstField (drop 1 s)) ≡ true → nextRead s ≡ digitsRead s
+  next-read e = next-shaped s h ∙ rw e
+
+-- the end that is read is the field's
+endOf : ℕ → ReadField → ℕ
+endOf other (ReadField.Number n end) = end
+endOf other ReadField.NotANumber = other
+
+placed-end : (end : ℕ) (f : Field) → endOf end (placed end f) ≡ end
+unfolding endOf placed
+placed-end end (Field.Number n) = refl
+placed-end end Field.NotANumber = refl
+
+pub end-read : (s : List ℕ) {n end : ℕ} → digitsRead s ≡ ReadField.Number n end → end ≡ 1 + fieldEnd (drop 1 s)
+unfolding digitsRead nextEnd endOf
+end-read s e = sym (ap (endOf (nextEnd s)) e) ∙ placed-end (nextEnd s) (digitsAfter 0 (firstField (drop 1 s)))
+
+pub part-read : (s : List ℕ) {n end : ℕ} → digitsRead s ≡ ReadField.Number n end → take (end - 1) (drop 1 s) ≡ firstField (drop 1 s)
+part-read s {end} e =
+    let h : end ≡ 1 + fieldEnd (drop 1 s) = end-read s e in
+    let k : end - 1 ≡ fieldEnd (drop 1 s) = omega arith in
+    rw k
+
+pub end-bound : (s : List ℕ) → 1 ≤ length s → 1 + fieldEnd (drop 1 s) ≤ length s
+end-bound s h = let l : length (drop 1 s) ≡ length s - 1 = length-drop 1 s in omega (arith, end-within (drop 1 s))
+
+-- ---- a leading zero wants two bytes
+module _ (f : List ℕ) where
+  pub led-short : length f < 2 → leadingZero f ≡ false
+  led-short h = rw (le-ltb 1 (length f) (omega arith), and-false)
+
+  pub led-long : 2 ≤ length f → leadingZero f ≡ eqb (getD f 0 0) 48
+  led-long h = rw (lt-ltb 1 (length f) (omega arith), and-true)

@@ -1,0 +1,2 @@
+-- What the contracts of the field reader cite, beside the rules' own definitions.
+pub mod Reading

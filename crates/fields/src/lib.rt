@@ -1,0 +1,117 @@
+// The field reader. Fields are parted by one tab; each is a number or the line is refused.
+use rules::calls::Field;
+ghost use mathlib.Core.Path.{_≡_};
+ghost use lib.ListN.{drop};
+ghost use Rattle.rules.specs.Lines.{fieldEnd, leadingZero};
+ghost use Rattle.fields.specs.Reading.{oneMore, isShaped, digitsRead, nextRead};
+
+// What the field reader answers: the field's number and where the part after the field begins, or that it
+// is no number.
+pub enum ReadField {
+    Number(u64, usize),
+    NotANumber,
+}
+
+// Where the first field ends: at the first tab, or at the end of the line.
+pub fn field_end(s: &[u8]) -> usize
+    ensures { λ r. ⌜ r ≡ fieldEnd (now (s .entry)) ⌝ }
+{
+    let mut i: usize = 0;
+    while i < s.len() {
+        if s[i] == 9 {
+            return i;
+        }
+        i += 1;
+    }
+    i
+}
+
+// "The field reader hands back the part of the line after the field", from the field's end on: it begins
+// with the next field's tab, and is empty where the line ends.
+pub fn after_field(s: &[u8], end: usize) -> &[u8]
+    ensures { λ r. ⌜ now r ≡ drop end (now (s .entry)) ⌝ }
+{
+    if s.len() < end {
+        return &s[s.len()..];
+    }
+    &s[end..]
+}
+
+// The number of the field that follows in a part that was handed back: one pass from its tab, which is
+// passed over, to the field's end.
+pub fn next_field(s: &[u8]) -> ReadField
+    ensures { λ r. ⌜ r ≡ nextRead (now (s .entry)) ⌝ }
+{
+    if s.len() == 0 {
+        return ReadField::NotANumber;
+    }
+    let ReadField::Number(n, end) = digits(s) else {
+        return ReadField::NotANumber;
+    };
+    if is_shaped(&s[1..end]) {
+        return ReadField::Number(n, end);
+    }
+    ReadField::NotANumber
+}
+
+// The value of the digits after a tab, up to the next tab or the end of the line; another byte among them,
+// or a value that no field can hold, and there is none.
+fn digits(s: &[u8]) -> ReadField
+    ensures { λ r. ⌜ r ≡ digitsRead (now (s .entry)) ⌝ }
+{
+    let mut v: u64 = 0;
+    let mut i: usize = 1;
+    while i < s.len() {
+        if s[i] == 9 {
+            return ReadField::Number(v, i);
+        }
+        let Field::Number(n) = one_more(v, s[i]) else {
+            return ReadField::NotANumber;
+        };
+        v = n;
+        i += 1;
+    }
+    ReadField::Number(v, i)
+}
+
+// One digit more, tested before the value is made, so that nothing wraps: a tenth of
+// 18,446,744,073,709,551,615 may be followed by digits up to 5, what is below it by any.
+fn one_more(v: u64, b: u8) -> Field
+    ensures { λ r. ⌜ r ≡ oneMore v b ⌝ }
+{
+    if b < 48 {
+        return Field::NotANumber;
+    }
+    if 57 < b {
+        return Field::NotANumber;
+    }
+    let d = (b - 48) as u64;
+    if v < 1_844_674_407_370_955_161 {
+        return Field::Number(v * 10 + d);
+    }
+    if 1_844_674_407_370_955_161 < v {
+        return Field::NotANumber;
+    }
+    if 5 < d {
+        return Field::NotANumber;
+    }
+    Field::Number(18_446_744_073_709_551_610 + d)
+}
+
+// "1 to 20 decimal digits, no sign, no leading zero except `0` itself", of a field that has nothing but
+// digits.
+fn is_shaped(f: &[u8]) -> bool
+    ensures { λ r. ⌜ r ≡ isShaped (now (f .entry)) ⌝ }
+{
+    (1 <= f.len()) & (f.len() <= 20) & !is_led(f)
+}
+
+// A leading zero: a first digit 0 with another after it.
+fn is_led(f: &[u8]) -> bool
+    ensures { λ r. ⌜ r ≡ leadingZero (now (f .entry)) ⌝ }
+{
+    if f.len() < 2 {
+        return false;
+    }
+    f[0] == 48
+}

@@ -1,0 +1,49 @@
+-- Where the number is all that a line comes to, the outcome is that number and the book as it was found.
+use Prim.Native.Nat.{ℕ}
+use mathlib.Core.Path.{_≡_, refl, sym, ap}
+use mathlib.Core.Bool.{Bool, true, false, not, _||_, cond}
+use native.Mathlib.Omega.{arith}
+use mathlib.Core.List.{[]}
+use Rattle.rules.specs.declared.calls.Call.{Call}
+use Rattle.rules.specs.declared.calls.Line.{Line}
+use Rattle.rules.specs.declared.answers.Answer.{Answer}
+use Rattle.rules.specs.State.{Book}
+use Rattle.rules.specs.Replies.{numberOf, told, plain}
+use Rattle.rules.specs.Answer.{Outcome, replyNumber, answer}
+use Rattle.rules.specs.Transcript.{answerLine}
+use Rattle.desk.specs.Parts.{isDone}
+use Rattle.desk.proofs.Books.{refuses}
+use Rattle.ledger.proofs.Laws.{sign-answers}
+use Rattle.refusals.specs.Said.{lineNumber, isSign, saysAll}
+
+-- the answer's number, and the book as it was found
+abbrev pub left : Answer → Book → Outcome
+left a b = record { reply = told a; pieces = []; book = b }
+
+never : false ≡ true → ⊥
+never e = let z : _≡_ {A = ℕ} 0 1 = ap (λ (t : Bool). cond t 1 0) e in omega arith
+
+module _ (b : Book) (a : Answer) where
+  signed : (c : Call) → told a ≡ plain (replyNumber b c) → isSign c ≡ true → left a b ≡ answer b c
+  unfolding isSign
+  signed (Call.Deposit d) t e = absurd (never e)
+  signed (Call.Claim c) t e = absurd (never e)
+  signed (Call.Transfer x) t e = absurd (never e)
+  signed (Call.Withdraw w) t e = absurd (never e)
+  signed Call.Send t e = absurd (never e)
+  signed (Call.Settle n) t e = absurd (never e)
+  signed (Call.Grant g) t e = absurd (never e)
+  signed (Call.Sign s) t e = sign-answers b s a t
+  signed (Call.Trace n) t e = absurd (never e)
+
+  call-said : (c : Call) → told a ≡ plain (replyNumber b c) → not (isDone a) || isSign c ≡ true → left a b ≡ answer b c
+  call-said c t e = go (isDone a) refl e
+    where
+      go : (d : Bool) → isDone a ≡ d → not d || isSign c ≡ true → left a b ≡ answer b c
+      go true d e = signed c t e
+      go false d e = refuses b c a t d
+
+  pub all-said : (l : Line) → told a ≡ plain (lineNumber b l) → saysAll l a ≡ true → answerLine b l ≡ left a b
+  unfolding lineNumber saysAll answerLine
+  all-said (Line.Reads c) t e = sym (call-said c t e)
+  all-said Line.Malformed t e = unfold told numberOf in rw t

@@ -1,0 +1,195 @@
+// What a line is refused for: every call's table of refusals, asked before anything is written. The desk's
+// lists are lent, so that a line whose number is all that it comes to copies no desk.
+use desk::answers::is_done;
+use frames::Counts;
+use rules::answers::Answer;
+use rules::answers::Refusal;
+use rules::calls::Call;
+use rules::calls::Line;
+ghost use mathlib.Core.Path.{_≡_};
+ghost use Rattle.rules.specs.Replies.{told, plain};
+ghost use Rattle.rules.specs.Answer.{replyNumber, bookOf};
+ghost use Rattle.frames.specs.Parts.{deskWith};
+ghost use Rattle.refusals.specs.Said.{lineNumber, isSign, saysAll};
+
+// The number that a line gets: 1 Malformed, or what its call's table of refusals comes to.
+pub fn line_reply<'a>(
+    balances: &'a [u64; 128],
+    holders: &'a [u64; 8],
+    lifetime: &'a [u64; 8],
+    settled: &'a [u64; 8],
+    counts: Counts,
+    inbox: &[u64],
+    outbox: &[u64],
+    history: &[u64],
+    l: Line,
+) -> Answer
+    ensures { λ r. ⌜ told r ≡ plain (lineNumber (bookOf (deskWith (now (balances .entry)) (now (holders .entry)) (now (lifetime .entry)) (now (settled .entry)) counts) (now (inbox .entry)) (now (outbox .entry)) (now (history .entry))) l) ⌝ }
+{
+    match l {
+        Line::Reads(c) => call_reply(
+            balances,
+            holders,
+            lifetime,
+            settled,
+            counts,
+            inbox,
+            outbox,
+            history,
+            c,
+        ),
+        Line::Malformed => {
+            let why = Refusal::Malformed;
+            Answer::Refused(why)
+        }
+    }
+}
+
+// The number that a call gets: the smallest of its refusals that apply, or 0. A trace is asked for with tables
+// that have a row for each record that a history can have.
+pub fn call_reply<'a>(
+    balances: &'a [u64; 128],
+    holders: &'a [u64; 8],
+    lifetime: &'a [u64; 8],
+    settled: &'a [u64; 8],
+    counts: Counts,
+    inbox: &[u64],
+    outbox: &[u64],
+    history: &[u64],
+    c: Call,
+) -> Answer
+    ensures { λ r. ⌜ told r ≡ plain (replyNumber (bookOf (deskWith (now (balances .entry)) (now (holders .entry)) (now (lifetime .entry)) (now (settled .entry)) counts) (now (inbox .entry)) (now (outbox .entry)) (now (history .entry))) c) ⌝ }
+{
+    match c {
+        Call::Deposit(x) => inbox::deposit_reply(
+            balances,
+            holders,
+            lifetime,
+            settled,
+            counts,
+            inbox,
+            outbox,
+            history,
+            x,
+        ),
+        Call::Claim(x) => inbox::claim_reply(
+            balances,
+            holders,
+            lifetime,
+            settled,
+            counts,
+            inbox,
+            outbox,
+            history,
+            x,
+        ),
+        Call::Transfer(x) => ledger::transfer_reply(
+            balances,
+            holders,
+            lifetime,
+            settled,
+            counts,
+            inbox,
+            outbox,
+            history,
+            x,
+        ),
+        Call::Withdraw(x) => outbox::withdraw_reply(
+            balances,
+            holders,
+            lifetime,
+            settled,
+            counts,
+            inbox,
+            outbox,
+            history,
+            x,
+        ),
+        Call::Send => outbox::send_reply(
+            balances,
+            holders,
+            lifetime,
+            settled,
+            counts,
+            inbox,
+            outbox,
+            history,
+        ),
+        Call::Settle(n) => outbox::settle_reply(
+            balances,
+            holders,
+            lifetime,
+            settled,
+            counts,
+            inbox,
+            outbox,
+            history,
+            n,
+        ),
+        Call::Grant(x) => ledger::grant_reply(
+            balances,
+            holders,
+            lifetime,
+            settled,
+            counts,
+            inbox,
+            outbox,
+            history,
+            x,
+        ),
+        Call::Sign(x) => ledger::sign_reply(
+            balances,
+            holders,
+            lifetime,
+            settled,
+            counts,
+            inbox,
+            outbox,
+            history,
+            x,
+        ),
+        Call::Trace(n) => {
+            let rows: usize = 1024;
+            history::refusals::trace_reply(
+                balances,
+                holders,
+                lifetime,
+                settled,
+                counts,
+                inbox,
+                outbox,
+                history,
+                rows,
+                rows,
+                n,
+            )
+        }
+    }
+}
+
+// Whether the number is all that the line comes to: where it is refused, and where it is a sign, nothing is
+// changed, handed out or told beside it.
+pub fn says_all(l: Line, a: Answer) -> bool
+    ensures { λ r. ⌜ r ≡ saysAll l a ⌝ }
+{
+    match l {
+        Line::Reads(c) => !is_done(a) | is_sign(c),
+        Line::Malformed => true,
+    }
+}
+
+fn is_sign(c: Call) -> bool
+    ensures { λ r. ⌜ r ≡ isSign c ⌝ }
+{
+    match c {
+        Call::Deposit(_) => false,
+        Call::Claim(_) => false,
+        Call::Transfer(_) => false,
+        Call::Withdraw(_) => false,
+        Call::Send => false,
+        Call::Settle(_) => false,
+        Call::Grant(_) => false,
+        Call::Sign(_) => true,
+        Call::Trace(_) => false,
+    }
+}

@@ -1,0 +1,5 @@
+pub mod Replaying
+pub mod Payments
+pub mod Pieces
+pub mod Once
+pub mod ReplayCalls
