@@ -1,10 +1,9 @@
 -- A line's word and its numbers: the word is compared byte by byte, and the form that has it reads the rest.
 use Prim.Native.Nat.{ℕ, zero, suc, _+_, _≤_, _<_}
 use mathlib.Core.Path.{_≡_, refl, sym, ap, _∙_}
-use mathlib.Core.Bool.{Bool, true, false, _&&_, cond, and-eq-true-iff}
+use mathlib.Core.Bool.{Bool, true, false, _&&_, cond, and-eq-true-iff, false≢true}
 use mathlib.Core.List.{List, [], _∷_}
 use native.Mathlib.Numerals.{add-one}
-use native.Mathlib.Omega.{arith}
 use lib.Dec.{eqb, eqb·zero-suc, eqb·suc-zero, eqb·suc-suc}
 use lib.ListN.{length, getD, take, drop, drop-of-length-le}
 use lib.Seq.{drop-cons}
@@ -17,9 +16,6 @@ use Rattle.rules.proofs.ReadBack.{fieldsAfter, fields-first}
 use Rattle.lines.proofs.TakingLaws.{taken-ap}
 use Rattle.fields.specs.Reading.{nextField, taken}
 use Rattle.lines.specs.Reading.{afterNext, taking, readsAs}
-
-never : false ≡ true → ⊥
-never e = let z : _≡_ {A = ℕ} 0 1 = cc in omega arith
 
 -- ---- the same bytes
 module _ (w f : List ℕ) (k : ℕ) where
@@ -41,8 +37,8 @@ same-not (x ∷ w) (y ∷ f) h = rw (same-not w f (λ e. h (ap suc e)), mathlib.
 pub same-eq : (w f : List ℕ) → same w f ≡ true → w ≡ f
 unfolding same
 same-eq [] [] h = refl
-same-eq [] (y ∷ f) h = absurd (never h)
-same-eq (x ∷ w) [] h = absurd (never h)
+same-eq [] (y ∷ f) h = absurd (false≢true h)
+same-eq (x ∷ w) [] h = absurd (false≢true h)
 same-eq (x ∷ w) (y ∷ f) h =
     let (a, b) = and-eq-true-iff (eqb x y) (same w f) .0 h in
     rw (eqb-true x y a, same-eq w f b)
@@ -88,7 +84,7 @@ formed-none w ns (f ∷ fs) e =
     go (same (f .word) w) refl (formed-none w ns fs)
   where
     go : (t : Bool) → same (f .word) w ≡ t → (any (λ g. same (g .word) w) fs ≡ false → formed fs w ns ≡ Line.Malformed) → formed (f ∷ fs) w ns ≡ Line.Malformed
-    go true q r = absurd (never (sym e ∙ rw q))
+    go true q r = absurd (false≢true (sym e ∙ rw q))
     go false q r = rw q (r (rw q at e))
 
 module _ (s : List ℕ) where

@@ -1,8 +1,6 @@
 -- Where the number is all that a line comes to, the outcome is that number and the book as it was found.
-use Prim.Native.Nat.{ℕ}
-use mathlib.Core.Path.{_≡_, refl, sym, ap}
-use mathlib.Core.Bool.{Bool, true, false, not, _||_, cond}
-use native.Mathlib.Omega.{arith}
+use mathlib.Core.Path.{_≡_, refl, sym}
+use mathlib.Core.Bool.{Bool, true, false, not, _||_, false≢true}
 use mathlib.Core.List.{[]}
 use Rattle.rules.specs.declared.calls.Call.{Call}
 use Rattle.rules.specs.declared.calls.Line.{Line}
@@ -20,21 +18,18 @@ use Rattle.refusals.specs.Said.{lineNumber, isSign, saysAll}
 abbrev pub left : Answer → Book → Outcome
 left a b = record { reply = told a; pieces = []; book = b }
 
-never : false ≡ true → ⊥
-never e = let z : _≡_ {A = ℕ} 0 1 = ap (λ (t : Bool). cond t 1 0) e in omega arith
-
 module _ (b : Book) (a : Answer) where
   signed : (c : Call) → told a ≡ plain (replyNumber b c) → isSign c ≡ true → left a b ≡ answer b c
   unfolding isSign
-  signed (Call.Deposit d) t e = absurd (never e)
-  signed (Call.Claim c) t e = absurd (never e)
-  signed (Call.Transfer x) t e = absurd (never e)
-  signed (Call.Withdraw w) t e = absurd (never e)
-  signed Call.Send t e = absurd (never e)
-  signed (Call.Settle n) t e = absurd (never e)
-  signed (Call.Grant g) t e = absurd (never e)
+  signed (Call.Deposit d) t e = absurd (false≢true e)
+  signed (Call.Claim c) t e = absurd (false≢true e)
+  signed (Call.Transfer x) t e = absurd (false≢true e)
+  signed (Call.Withdraw w) t e = absurd (false≢true e)
+  signed Call.Send t e = absurd (false≢true e)
+  signed (Call.Settle n) t e = absurd (false≢true e)
+  signed (Call.Grant g) t e = absurd (false≢true e)
   signed (Call.Sign s) t e = sign-answers b s a t
-  signed (Call.Trace n) t e = absurd (never e)
+  signed (Call.Trace n) t e = absurd (false≢true e)
 
   call-said : (c : Call) → told a ≡ plain (replyNumber b c) → not (isDone a) || isSign c ≡ true → left a b ≡ answer b c
   call-said c t e = go (isDone a) refl e

@@ -1,21 +1,14 @@
 -- What is written for a reply: its line's start, its pieces, and how much room they want.
-use Prim.Native.Nat.{ℕ, _+_, _*_, _≤_}
+use Prim.Native.Nat.{ℕ}
 use mathlib.Core.Path.{_≡_}
-use mathlib.Core.Bool.{true}
 use mathlib.Core.List.{List, [], _∷_, _++_, append-assoc, append-nil}
-use native.Mathlib.Omega.{arith}
-use lib.ListN.{length, length-append}
 use Rattle.rules.specs.declared.rows.Lot.{Lot}
-use Rattle.rules.specs.declared.answers.Tally.{Tally}
-use Rattle.rules.specs.Limits.{highestField}
 use Rattle.rules.specs.Lists.{joined}
 use Rattle.rules.specs.Lines.{lineFeed, decimal, tabbed}
 use Rattle.rules.specs.Replies.{Reply}
 use Rattle.rules.specs.Answer.{Outcome}
-use Rattle.rules.specs.Transcript.{pieceValues, replyText, endText}
+use Rattle.rules.specs.Transcript.{pieceValues, replyText}
 use Rattle.rules.proofs.Laying.{joined-append}
-use Rattle.rules.proofs.Digits.{decimal-spells}
-use Rattle.rules.proofs.ReadBack.{fitting, length-tabbed}
 use Rattle.pages.specs.Writing.{Page, put}
 use Rattle.pages.proofs.PageLaws.{put-then, put-values, tabbed-append}
 use Rattle.replies.specs.Writing.{replyStart, replyLine}
@@ -50,16 +43,3 @@ pub put-pieces : (p : Page) {q r : Page} (ls : List Lot) (l : Lot) → q ≡ put
     → r ≡ put p (tabbed (joined pieceValues (ls ++ (l ∷ []))))
 unfolding joined
 put-pieces p ls l e f = rw (joined-append pieceValues ls (l ∷ [])) (put-values p (joined pieceValues ls) (pieceValues l) e f)
-
--- ---- room
--- how much room a reply's line wants up to its pieces, each piece, and the last line: at most 21 bytes for each number with its tab
-pub start-room : (n : ℕ) (r : Reply) → n ≤ highestField → fitting (r .number ∷ r .values) ≡ true → length (replyStart n r) ≤ 41 + 21 * length (r .values)
-unfolding replyStart
-start-room n r h f = rw length-append (omega (arith, decimal-spells n h .short, length-tabbed (r .number ∷ r .values) f))
-
-pub piece-room : (l : Lot) → fitting (pieceValues l) ≡ true → length (tabbed (pieceValues l)) ≤ 42
-piece-room l f = omega (arith, length-tabbed (pieceValues l) f)
-
-pub end-room : (t : Tally) → fitting (t .done ∷ t .other ∷ []) ≡ true → length (endText t) ≤ 46
-unfolding endText Rattle.rules.specs.Lists.bytes
-end-room t f = rw (length-append, length-append) (omega (arith, length-tabbed (t .done ∷ t .other ∷ []) f))

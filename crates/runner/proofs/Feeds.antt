@@ -8,7 +8,7 @@ use native.Mathlib.Omega.{arith}
 use lib.Dec.{leb}
 use lib.ListN.{length, getD, take, set}
 use lib.Seq.{length-take-le, take-suc, take-suc-set}
-use borrow.Author.Tests.{lt-ltb, le-ltb, eq-eqb, ne-eqb}
+use borrow.Author.Tests.{lt-ltb, le-ltb, eq-eqb}
 use Rattle.rules.specs.declared.calls.Line.{Line}
 use Rattle.rules.specs.Lines.{readLine}
 use Rattle.rules.specs.Transcript.{replyText}
@@ -38,24 +38,6 @@ hold-full t n b h g l =
 module _ (run : Running) (i o h held : List ℕ) (b : ℕ) where
   abbrev pub now-at : Machine
   now-at = machineOf run i o h held
-
-  -- "stops after 100,000 lines"
-  pub stopped-fed : 100000 < run .line → now-at ≡ fed now-at b
-  unfolding fed
-  stopped-fed s = rw (lt-ltb 100000 (run .line) s)
-
-  pub stopped-written : 100000 < run .line → (p : Page) → p ≡ put p (written now-at b)
-  unfolding written
-  stopped-written s p = rw (lt-ltb 100000 (run .line) s) (put-nothing p)
-
-  -- a byte of a line
-  pub byte-fed : run .line ≤ 100000 → (b ≡ 10 → ⊥) → (next : List ℕ) → next ≡ held-with held b → machineOf run i o h next ≡ fed now-at b
-  unfolding fed
-  byte-fed s n next e = rw (le-ltb 100000 (run .line) s, ne-eqb b 10 n, e)
-
-  pub byte-written : run .line ≤ 100000 → (b ≡ 10 → ⊥) → (p : Page) → p ≡ put p (written now-at b)
-  unfolding written
-  byte-written s n p = rw (le-ltb 100000 (run .line) s, ne-eqb b 10 n) (put-nothing p)
 
   -- a line feed
   pub line-fed : run .line ≤ 100000 → b ≡ 10 → (l : Line) → l ≡ readLine held → (m : Machine) → m ≡ answered (machineOf run i o h []) (outcomeFor (machineOf run i o h []) l) → m ≡ fed now-at b

@@ -1,7 +1,7 @@
 -- A part of a read fed at once: bytes that hold no line feed are held, and write nothing.
 use Prim.Native.Nat.{ℕ, _+_, _-_, _≤_, _<_}
 use mathlib.Core.Path.{_≡_, refl, sym, ap, subst, _∙_}
-use mathlib.Core.Bool.{Bool, true, false, not, _&&_, cond}
+use mathlib.Core.Bool.{Bool, true, false, not, _&&_, false≢true}
 use mathlib.Core.List.{List, [], _∷_, _++_, append-nil}
 use native.Mathlib.Numerals.{add-one}
 use native.Mathlib.Omega.{arith}
@@ -54,7 +54,7 @@ module _ (run : Running) (i o h : List ℕ) where
           let r = f g in
           let l = le-ltb 100000 (run .line) s in
           (rw (l, q) (r .0), rw (l, q) (r .1))
-      go true q g f = absurd (let z : _≡_ {A = ℕ} 0 1 = ap (λ (t : Bool). cond t 1 0) g in omega arith)
+      go true q g f = absurd (false≢true g)
 
   pub part-fed : (held bs next : List ℕ) → run .line ≤ 100000 → all noFeed bs ≡ true → next ≡ holds held bs → machineOf run i o h next ≡ feeds (machineOf run i o h held) bs
   part-fed held bs next s e q = rw (part-both held bs s e .0, q)

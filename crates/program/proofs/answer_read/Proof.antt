@@ -1,6 +1,6 @@
-use Prim.Native.Nat.{ℕ, _-_, _≤_, _<_}
+use Prim.Native.Nat.{_-_, _≤_, _<_}
 use mathlib.Core.Path.{_≡_, refl, sym, ap, _∙_}
-use mathlib.Core.Bool.{Bool, true, false, cond}
+use mathlib.Core.Bool.{false≢true}
 use native.Mathlib.Omega.{arith}
 use lib.ListN.{length, take}
 use lib.Seq.{length-take-le, take-all}
@@ -12,9 +12,6 @@ use Rattle.runner.specs.Feeding.{fedMachine, Ready}
 use borrow.Author.Needs.{needs}
 use Rattle.program.proofs.answer_read.Statement.{statement}
 use Rattle.program.proofs.answer_read.Tie as tie
-
-not-both : false ≡ true → ⊥
-not-both e = let z : _≡_ {A = ℕ} 0 1 = ap (λ (t : Bool). cond t 1 0) e in omega arith
 
 abbrev Inv-loop : tie.InvT-loop
 Inv-loop inbox₀ outbox₀ history₀ hold₀ chunk out₀ g₀ from₀ inbox outbox history hold out g from =
@@ -83,7 +80,7 @@ same-length-5 c = c .before .before .before .before .before .before .before .out
 returns : tie.Need-returns Inv-loop μ-loop
 returns c =
     let r = c .before .before .before .before .before .before .before .before .before .before .before .before .before .before .before .before .run-some in
-    (record { counted = r .ensures .ready .counted; held = r .ensures .ready .held; size = r .ensures .ready .size }, (refl, λ e. absurd (not-both e)))
+    (record { counted = r .ensures .ready .counted; held = r .ensures .ready .held; size = r .ensures .ready .size }, (refl, λ e. absurd (false≢true e)))
 
 loop-less : tie.Need-loop-less Inv-loop μ-loop
 loop-less c =

@@ -1,6 +1,6 @@
 use Prim.Native.Nat.{ℕ, zero, suc, _+_, _-_, _≤_, _<_}
-use mathlib.Core.Path.{_≡_, refl, sym, ap, _∙_}
-use mathlib.Core.Bool.{Bool, true, false, not, cond}
+use mathlib.Core.Path.{_≡_, refl, sym, _∙_}
+use mathlib.Core.Bool.{Bool, true, false, not, false≢true}
 use native.Mathlib.Omega.{arith}
 use lib.Dec.{leb}
 use lib.ListN.{length}
@@ -41,7 +41,7 @@ holds-room : (t u : Bool) → t ≡ u → not t ≡ false → u ≡ true
 holds-room t u e h = sym e ∙ not-false t h
 
 no-room : (t : Bool) (n at : ℕ) → t ≡ leb 45000 (n - at) → not t ≡ true → n - at < 45000
-no-room true n at e h = absurd (let z : _≡_ {A = ℕ} 0 1 = ap (λ (u : Bool). cond u 1 0) h in omega arith)
+no-room true n at e h = absurd (false≢true h)
 no-room false n at e h = leb-false 45000 (n - at) (sym e)
 
 -- where nothing is fed the place is the one from the start, and there was room
