@@ -8,9 +8,9 @@ use Rattle.rules.specs.State.{Book}
 use Rattle.rules.specs.Replies.{told, plain}
 use Rattle.rules.specs.Answer.{replyNumber}
 use Rattle.rules.proofs.Told.{told-once}
-use Rattle.refusals.specs.Said.{lineNumber, saysAll}
+use Rattle.refusals.specs.Said.{lineReplyNumber, saysAll}
 
-pub line-reply-once : (b : Book) (l : Line) (r r′ : Answer) → told r ≡ plain (lineNumber b l) → told r′ ≡ plain (lineNumber b l) → r ≡ r′
+pub line-reply-once : (b : Book) (l : Line) (r r′ : Answer) → told r ≡ plain (lineReplyNumber b l) → told r′ ≡ plain (lineReplyNumber b l) → r ≡ r′
 line-reply-once b l r r′ p q = told-once r r′ (p ∙ sym q)
 
 pub call-reply-once : (b : Book) (c : Call) (r r′ : Answer) → told r ≡ plain (replyNumber b c) → told r′ ≡ plain (replyNumber b c) → r ≡ r′

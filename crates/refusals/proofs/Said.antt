@@ -12,7 +12,7 @@ use Rattle.rules.specs.Transcript.{answerLine}
 use Rattle.desk.specs.Parts.{isDone}
 use Rattle.desk.proofs.Books.{refuses}
 use Rattle.ledger.proofs.Laws.{sign-answers}
-use Rattle.refusals.specs.Said.{lineNumber, isSign, saysAll}
+use Rattle.refusals.specs.Said.{lineReplyNumber, isSign, saysAll}
 
 -- the answer's number, and the book as it was found
 abbrev pub left : Answer → Book → Outcome
@@ -38,7 +38,7 @@ module _ (b : Book) (a : Answer) where
       go true d e = signed c t e
       go false d e = refuses b c a t d
 
-  pub all-said : (l : Line) → told a ≡ plain (lineNumber b l) → saysAll l a ≡ true → answerLine b l ≡ left a b
-  unfolding lineNumber saysAll answerLine
+  pub all-said : (l : Line) → told a ≡ plain (lineReplyNumber b l) → saysAll l a ≡ true → answerLine b l ≡ left a b
+  unfolding lineReplyNumber saysAll answerLine
   all-said (Line.Reads c) t e = sym (call-said c t e)
   all-said Line.Malformed t e = unfold told numberOf in rw t

@@ -10,10 +10,10 @@ use Rattle.rules.specs.Replies.{numberOf}
 use Rattle.rules.specs.Answer.{replyNumber}
 use Rattle.desk.specs.Parts.{isDone}
 
--- the number that a line gets
-unfoldable pub lineNumber : Book → Line → ℕ
-lineNumber b (Line.Reads c) = replyNumber b c
-lineNumber b Line.Malformed = numberOf Refusal.Malformed
+-- the reply number that a line gets
+unfoldable pub lineReplyNumber : Book → Line → ℕ
+lineReplyNumber b (Line.Reads c) = replyNumber b c
+lineReplyNumber b Line.Malformed = numberOf Refusal.Malformed
 
 -- whether a call is a sign: "allowed exactly if the member holds the domain. Changes nothing."
 unfoldable pub isSign : Call → Bool

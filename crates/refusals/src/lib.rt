@@ -10,9 +10,9 @@ ghost use mathlib.Core.Path.{_≡_};
 ghost use Rattle.rules.specs.Replies.{told, plain};
 ghost use Rattle.rules.specs.Answer.{replyNumber, bookOf};
 ghost use Rattle.frames.specs.Parts.{deskWith};
-ghost use Rattle.refusals.specs.Said.{lineNumber, isSign, saysAll};
+ghost use Rattle.refusals.specs.Said.{lineReplyNumber, isSign, saysAll};
 
-// The number that a line gets: 1 Malformed, or what its call's table of refusals comes to.
+// The reply number that a line gets: 1 Malformed, or what its call's table of refusals comes to.
 pub fn line_reply<'a>(
     balances: &'a [u64; 128],
     holders: &'a [u64; 8],
@@ -24,7 +24,7 @@ pub fn line_reply<'a>(
     history: &[u64],
     l: Line,
 ) -> Answer
-    ensures { λ r. ⌜ told r ≡ plain (lineNumber (bookOf (deskWith (now (balances .entry)) (now (holders .entry)) (now (lifetime .entry)) (now (settled .entry)) counts) (now (inbox .entry)) (now (outbox .entry)) (now (history .entry))) l) ⌝ }
+    ensures { λ r. ⌜ told r ≡ plain (lineReplyNumber (bookOf (deskWith (now (balances .entry)) (now (holders .entry)) (now (lifetime .entry)) (now (settled .entry)) counts) (now (inbox .entry)) (now (outbox .entry)) (now (history .entry))) l) ⌝ }
 {
     match l {
         Line::Reads(c) => call_reply(
@@ -45,7 +45,7 @@ pub fn line_reply<'a>(
     }
 }
 
-// The number that a call gets: the smallest of its refusals that apply, or 0. A trace is asked for with tables
+// The reply number that a call gets: the smallest of its refusals that apply, or 0. A trace is asked for with tables
 // that have a row for each record that a history can have.
 pub fn call_reply<'a>(
     balances: &'a [u64; 128],

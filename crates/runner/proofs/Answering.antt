@@ -18,7 +18,7 @@ use Rattle.replies.specs.Writing.{replyLine}
 use Rattle.replies.proofs.ReplyLaws.{reply-line}
 use Rattle.desk.specs.Parts.{isDone}
 use Rattle.desk.proofs.Books.{accepts}
-use Rattle.refusals.specs.Said.{lineNumber, isSign, saysAll}
+use Rattle.refusals.specs.Said.{lineReplyNumber, isSign, saysAll}
 use Rattle.refusals.proofs.Said.{left}
 use Rattle.steps.specs.declared.step.Stepped.{Stepped}
 use Rattle.steps.specs.Step.{Replied, repliedOf, replied, steppedOf, LineAccepted}
@@ -32,9 +32,9 @@ pub said-replied : (run : Running) (i o h : List ℕ) (l : Line) (a : Answer) (p
 said-replied run i o h l a p at out e f = rw (e, reply-line (run .line) (left a (bookOf (run .desk) i o h)) refl, f)
 
 -- and a line of which there is more to say is one whose call nothing refuses
-pub line-accepted : (b : Book) (l : Line) (a : Answer) → told a ≡ plain (lineNumber b l) → saysAll l a ≡ false → LineAccepted b l
-unfolding lineNumber saysAll
-line-accepted b l a t e = record { accepts = λ c f. go c (subst (λ (x : Line). told a ≡ plain (lineNumber b x)) f t) (subst (λ (x : Line). saysAll x a ≡ false) f e) }
+pub line-accepted : (b : Book) (l : Line) (a : Answer) → told a ≡ plain (lineReplyNumber b l) → saysAll l a ≡ false → LineAccepted b l
+unfolding lineReplyNumber saysAll
+line-accepted b l a t e = record { accepts = λ c f. go c (subst (λ (x : Line). told a ≡ plain (lineReplyNumber b x)) f t) (subst (λ (x : Line). saysAll x a ≡ false) f e) }
   where
     done : (d s : Bool) → not d || s ≡ false → d ≡ true
     done true s z = refl

@@ -1,5 +1,5 @@
 use Rattle.rules.specs.Replies.{told, numberOf}
-use Rattle.refusals.specs.Said.{lineNumber}
+use Rattle.refusals.specs.Said.{lineReplyNumber}
 use borrow.Author.Needs.{needs}
 use Rattle.refusals.proofs.line_reply.Statement.{statement}
 use Rattle.refusals.proofs.line_reply.Tie as tie
@@ -14,11 +14,11 @@ enum-told : tie.Need-enum-told
 enum-told c = search needs
 
 returns : tie.Need-returns
-unfolding lineNumber
+unfolding lineReplyNumber
 returns c = rw (c .before .before .l .given .1) (c .call-reply .ensures)
 
 returns-2 : tie.Need-returns-2
-unfolding lineNumber told numberOf
+unfolding lineReplyNumber told numberOf
 returns-2 c = rw (c .enum-told .given .1)
 
 pub line-reply-spec : {M : Type 1} → statement M

@@ -13,7 +13,7 @@ use Rattle.rules.specs.Replies.{told, plain}
 use Rattle.rules.specs.Answer.{bookOf}
 use Rattle.fields.proofs.FieldLaws.{from-on}
 use Rattle.pages.specs.Writing.{Page, page}
-use Rattle.refusals.specs.Said.{lineNumber}
+use Rattle.refusals.specs.Said.{lineReplyNumber}
 use Rattle.refusals.proofs.Said.{all-said}
 use Rattle.steps.specs.declared.step.Stepped.{Stepped}
 use Rattle.steps.specs.Step.{steppedOf}
@@ -224,7 +224,7 @@ loop-again c =
     let b : Book = bookOf (v .desk) (v .inbox) (v .outbox) (v .history) in
     let p : Page = page (v .out) (v .at) in
     let r : Stepped = steppedOf (v .desk) (y .result) (w .result .at) in
-    let tells : told (y .result) ≡ plain (lineNumber b (l .result)) = rw (y .ensures, c .before .before .before .before .before .before .before .before .before .before .before .before .before .before .before .before .counts-of .ensures) in
+    let tells : told (y .result) ≡ plain (lineReplyNumber b (l .result)) = rw (y .ensures, c .before .before .before .before .before .before .before .before .before .before .before .before .before .before .before .before .counts-of .ensures) in
     let said = all-said b (y .result) (l .result) tells (sym (c .before .before .before .before .before .before .says-all .ensures) ∙ c .before .before .before .before .before .if4 .taken) in
     let e = said-replied run (v .inbox) (v .outbox) (v .history) (l .result) (y .result) p (w .result .at) (w .last .1 .1 .0) said (w .ensures .1) in (
       so-line _ _ _ _ _ _ _ _ _ _ _ (v .inv .0) few room (from-on (a .chunk .now) (v .k)) (n .result) (n .ensures) (c .before .before .before .before .before .before .before .before .before .before .before .before .before .before .before .before .before .before .before .before .before .before .if3 .left) (l .result) (l .ensures) (running (v .desk) (w .result .tally) (v .line + 1)) (w .result .at) (v .inbox) (v .outbox) (v .history) (l .last .0) (w .last .1 .1 .0) (search needs)
@@ -244,7 +244,7 @@ answer-line-requires c κs =
     let v = c .before .before .before .before .before .before .before .before .before .before .before .before .before .before .before .before .before .before .before .before .before .before .before .before .before .before .before .before .loop in
     let l = c .before .before .before .before .before .before .before .before .before .before .before .before .before .before .before .before .before .before .whole-line in
     let y = c .before .before .before .before .before .before .line-reply in
-    let tells : told (y .result) ≡ plain (lineNumber (bookOf (v .desk) (v .inbox) (v .outbox) (v .history)) (l .result)) = rw (y .ensures, c .before .before .before .before .before .before .before .before .before .before .before .before .before .before .before .counts-of .ensures) in
+    let tells : told (y .result) ≡ plain (lineReplyNumber (bookOf (v .desk) (v .inbox) (v .outbox) (v .history)) (l .result)) = rw (y .ensures, c .before .before .before .before .before .before .before .before .before .before .before .before .before .before .before .counts-of .ensures) in
     (v .inv .0 .ready .counted, (c .before .before .before .before .before .before .before .before .before .before .before .before .before .before .before .before .before .before .before .before .before .before .before .before .if2 .left, line-accepted _ (l .result) (y .result) tells (sym (c .before .before .before .before .before .says-all .ensures) ∙ c .before .before .before .before .if4 .left)))
 
 add-k-3 : tie.Need-add-k-3 Inv-loop μ-loop
