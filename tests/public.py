@@ -5,8 +5,10 @@
 
 Every public function of a library stands in the list once and has an `ensures`; every function that is
 listed is there; the lemma that says that any two allowed results coincide stands in its crate's
-proofs/Once.antt; every must-fail edit that is named is there, and every edit is named. A dash stands for
-an exception, which docs/DECISIONS.md explains. The last line is 'N functions, 0 wrong'.
+proofs/Once.antt, over the contract that the checker makes of that function, and a lemma that leaves
+something open is one of those that docs/DECISIONS.md lists; every must-fail edit that is named is there,
+and every edit is named. A dash stands for an exception, which docs/DECISIONS.md explains. The last line is
+'N functions, 0 wrong'.
 """
 import os
 import re
@@ -50,6 +52,26 @@ def listed():
         yield row[0], re.findall(r"`([^`]+)`", row[1]), re.findall(r"`([^`]+)`", row[2]), row
 
 
+def form_of(name, lemma):
+    """How the lemma is stated over the function's own contract: Coincide, or AnyTwo, which leaves something open."""
+    crate, path = name.split("::", 1)
+    once = text(CRATES, crate, "proofs", "Once.antt")
+    own = re.search(rf"^use Rattle\.{crate}\.proofs\.{path.replace('::', '.')} as (\S+)$", once, re.M)
+    if own and "\nuse Rattle.rules.specs.Coincide.{" in once:
+        contract = f"{own[1]}.ended (λ M 𝓤. {own[1]}.clauses 𝓤)"
+        if f"\npub {lemma} : Coincide {contract}\n" in once:
+            return "Coincide"
+        if f"\npub {lemma} : AnyTwo {contract} " in once:
+            return "AnyTwo"
+    return None
+
+
+def left_open():
+    """The functions of which docs/DECISIONS.md says what their contract leaves open."""
+    part = text(TOP, "docs", "DECISIONS.md").split("## What a contract leaves open")[1].split("\n## ")[0]
+    return {"::".join(re.findall(r"`([^`]+)`", cell)) for cell in re.findall(r"^\| (`.*?) \|", part, re.M)}
+
+
 def all_edits():
     for crate in libraries():
         folder = os.path.join(CRATES, crate, "must-fail")
@@ -61,15 +83,17 @@ def all_edits():
 def wrong_rows(there, edits):
     seen = set()
     for name, lemmas, named, row in listed():
-        crate = name.split("::")[0]
         if name in seen:
             yield f"{name}: listed twice"
         seen.add(name)
         if name not in there:
             yield f"{name}: listed, and no such public function"
         for lemma in lemmas:
-            if not re.search(rf"^\s*pub {re.escape(lemma)} :", text(CRATES, crate, "proofs", "Once.antt"), re.M):
-                yield f"{name}: no {lemma} in its Once.antt"
+            form = form_of(name, lemma)
+            if form is None:
+                yield f"{name}: no {lemma} over its contract in its Once.antt"
+            if form == "AnyTwo" and name not in left_open():
+                yield f"{name}: {lemma} leaves something open that docs/DECISIONS.md does not list"
         if not lemmas and row[1] != "–":
             yield f"{name}: neither a lemma nor a dash"
         for edit in named:

@@ -3,28 +3,28 @@ use Prim.Native.Nat.{ℕ, suc, _+_, _-_, _*_, _≤_, _<_}
 use mathlib.Core.Path.{_≡_, refl, sym, ap, _∙_}
 use mathlib.Core.Logic.{_≢_}
 use mathlib.Core.Bool.{Bool, true, false, _&&_, cond}
-use mathlib.Core.List.{List, [], _∷_, _++_, append-nil}
+use mathlib.Core.List.{List, [], _∷_, _++_}
 use native.Mathlib.Omega.{arith}
-use lib.ListN.{length, getD, set, take-append-drop, length-append}
-use lib.Seq.{length-take-le}
-use borrow.Author.Tests.{leb-true, eqb-true, le-leb}
+use lib.ListN.{length, getD, set}
+use borrow.Author.Tests.{leb-true, le-leb}
 use Rattle.rules.specs.declared.rows.Record.{Record}
 use Rattle.rules.specs.declared.desk.Desk.{Desk}
 use Rattle.rules.specs.declared.calls.Call.{Call}
 use Rattle.rules.specs.declared.answers.Answer.{Answer}
 use Rattle.rules.specs.Limits.{ceiling, within, isMember, isAsset}
 use Rattle.rules.specs.Lists.{all}
-use Rattle.rules.specs.Tables.{Edit, lay, edited, editedTable, HasRoom, depositShape, paymentShape, recordShape}
-use Rattle.rules.specs.State.{Book, inboxOf, outboxOf, historyOf, payments, view, laid}
+use Rattle.rules.specs.Tables.{Edit, lay, edited, editedTable, recordShape}
+use Rattle.rules.specs.State.{Book, historyOf, view, laid}
 use Rattle.rules.specs.Replies.{told, plain}
 use Rattle.rules.specs.Effects.{effect, cell, balance}
-use Rattle.rules.specs.Frame.{upToCeiling, inFrame}
+use Rattle.rules.specs.Frame.{upToCeiling}
 use Rattle.rules.specs.Answer.{answer, replyNumber, doneAnswer, piecesOf, bookOf, outcomeOf}
-use Rattle.rules.proofs.Laying.{length-rows, lay-edited}
-use Rattle.rules.proofs.Shapes.{depositSound, paymentSound, recordSound}
-use Rattle.rules.proofs.Tests.{both-of, true-within, all-at, ands-at}
+use Rattle.rules.proofs.Laying.{RoomFor, lay-edited}
+use Rattle.rules.proofs.Shapes.{recordSound}
+use Rattle.rules.proofs.Books.{Framed}
+use Rattle.rules.proofs.Tests.{both-of, true-within, all-at}
 use Rattle.rules.specs.Facts.{Within, Accepted}
-use Rattle.rules.proofs.Accepts.{not-done}
+use Rattle.rules.proofs.Accepts.{accepted-number, by-number, not-done}
 use Rattle.tables.specs.Rows.{putAt}
 use Rattle.desk.specs.Parts.{isDone, ofEight}
 use Rattle.desk.specs.Kept.{eightSet, balanceSet}
@@ -46,92 +46,27 @@ module _ (b : Book) (c : Call) (a : Answer) (tells : told a ≡ plain (replyNumb
 
   -- not refused: accepted
   pub accepts : isDone a ≡ true → Accepted b c
-  accepts d = record { done = done-number a (replyNumber b c) tells d }
+  accepts d = by-number b c (done-number a (replyNumber b c) tells d)
 
 -- done: the answer of a done call, and the effect laid
 pub lays : (b : Book) (c : Call) → Accepted b c → (a : Answer) (d : Desk) (i o h : List ℕ) → told a ≡ told (doneAnswer (view b) c) → piecesOf (view b) c ≡ []
     → bookOf d i o h ≡ laid (effect c (view b)) b → outcomeOf (record { answer = a; desk = d }) i o h ≡ answer b c
 unfolding answer
-lays b c y a d i o h p q l = rw (y .done, p, q, ← l)
+lays b c y a d i o h p q l = rw (accepted-number b c y, p, q, ← l)
 
--- ---- a book in frame
-pub record Framed (b : Book) : Type 0 where
-  pub inboxSize : length (b .inbox) ≡ 256
-  pub outboxSize : length (b .outbox) ≡ 128
-  pub historySize : length (b .history) ≡ 5120
-  pub unclaimed : b .desk .unclaimed ≤ 64
-  pub payments : b .desk .payments ≤ 32
-  pub records : b .desk .records ≤ 1024
-  pub inflight : b .desk .inflight ≤ b .desk .payments
-  pub balances : all upToCeiling (b .desk .balances) ≡ true
-  pub lifetime : all upToCeiling (b .desk .lifetime) ≡ true
-  pub settled : all upToCeiling (b .desk .settled) ≡ true
-  pub last : b .desk .last .0 ≤ 4294967295
-  pub next : b .desk .next .0 ≤ 1024
-
-pub framed : (b : Book) → inFrame b ≡ true → Framed b
-unfolding inFrame
-framed b h =
-    record {
-      inboxSize = eqb-true _ _ (ands-at _ 0 h);
-      outboxSize = eqb-true _ _ (ands-at _ 1 h);
-      historySize = eqb-true _ _ (ands-at _ 2 h);
-      unclaimed = leb-true _ _ (ands-at _ 3 h);
-      payments = leb-true _ _ (ands-at _ 4 h);
-      records = leb-true _ _ (ands-at _ 5 h);
-      inflight = leb-true _ _ (ands-at _ 6 h);
-      balances = ands-at _ 7 h;
-      lifetime = ands-at _ 8 h;
-      settled = ands-at _ 9 h;
-      last = leb-true _ _ (ands-at _ 14 h);
-      next = leb-true _ _ (ands-at _ 15 h);
-    }
-
--- ---- what is laid back into a table: as it was, or with one row more
-module _ (b : Book) (f : Framed b) where
-  pub inbox-kept : lay depositShape (inboxOf b) (b .desk .unclaimed) (b .inbox) ≡ b .inbox
-  unfolding edited editedTable HasRoom
-  inbox-kept = lay-edited depositShape depositSound Edit.keep (b .desk .unclaimed) (b .inbox) (omega arith)
-
-  -- the payments of the view are the rows of the outbox
-  pub payments-are : payments (view b .outside) ≡ outboxOf b
-  unfolding view
-  payments-are = take-append-drop (b .desk .inflight) (outboxOf b)
-
-  pub outbox-kept : lay paymentShape (payments (view b .outside)) (b .desk .payments) (b .outbox) ≡ b .outbox
-  unfolding edited editedTable HasRoom
-  outbox-kept = rw payments-are (lay-edited paymentShape paymentSound Edit.keep (b .desk .payments) (b .outbox) (omega arith))
-
-  pub history-kept : lay recordShape (historyOf b ++ []) (b .desk .records) (b .history) ≡ b .history
-  unfolding edited editedTable HasRoom
-  history-kept = rw (append-nil (historyOf b)) (lay-edited recordShape recordSound Edit.keep (b .desk .records) (b .history) (omega arith))
-
-  pub record-added : (r : Record) → b .desk .records < 1024
-      → lay recordShape (historyOf b ++ (r ∷ [])) (b .desk .records) (b .history) ≡ putAt (b .desk .records * 5) (recordShape .flat r) (b .history)
-  unfolding edited editedTable HasRoom putAt
-  record-added r h =
-      let e : suc (b .desk .records) * 5 ≡ b .desk .records * 5 + 5 = omega arith in
-      rw (le-leb (b .desk .records * 5 + 5) (length (b .history)) (omega arith))
-      (lay-edited recordShape recordSound (Edit.add r) (b .desk .records) (b .history) (omega arith))
-
-  -- ---- counts
-  pub inbox-count : length (inboxOf b) ≡ b .desk .unclaimed
-  inbox-count = length-rows depositShape (b .desk .unclaimed) (b .inbox)
-
-  pub outbox-count : length (payments (view b .outside)) ≡ b .desk .payments
-  outbox-count = rw payments-are (length-rows paymentShape (b .desk .payments) (b .outbox))
-
-  pub flight-count : length (view b .outside .inflight) ≡ b .desk .inflight
-  unfolding view
-  flight-count = length-take-le (b .desk .inflight) (outboxOf b) (rw (length-rows paymentShape (b .desk .payments) (b .outbox)) (f .inflight))
-
-  pub history-count : (rs : List Record) → length (historyOf b ++ rs) ≡ b .desk .records + length rs
-  history-count rs = length-append (historyOf b) rs ∙ ap (λ (n : ℕ). n + length rs) (length-rows recordShape (b .desk .records) (b .history))
+-- ---- what is laid back into the history: one row more
+pub record-added : (b : Book) → Framed b → (r : Record) → b .desk .records < 1024
+    → lay recordShape (historyOf b ++ (r ∷ [])) (b .desk .records) (b .history) ≡ putAt (b .desk .records * 5) (recordShape .flat r) (b .history)
+unfolding edited editedTable RoomFor putAt
+record-added b f r h =
+    let e : suc (b .desk .records) * 5 ≡ b .desk .records * 5 + 5 = omega arith in
+    rw (le-leb (b .desk .records * 5 + 5) (length (b .history)) (omega arith))
+    (lay-edited recordShape recordSound (Edit.add r) (b .desk .records) (b .history) (omega arith))
 
 -- done, for a call whose answer is a bare Done: the answer that was found is that
 pub lays-plain : (b : Book) (c : Call) → Accepted b c → (a : Answer) → told a ≡ plain (replyNumber b c) → told (doneAnswer (view b) c) ≡ plain 0 → piecesOf (view b) c ≡ []
     → (d : Desk) (i o h : List ℕ) → bookOf d i o h ≡ laid (effect c (view b)) b → outcomeOf (record { answer = a; desk = d }) i o h ≡ answer b c
-lays-plain b c y a p q r d i o h l = lays b c y a d i o h (p ∙ ap plain (y .done) ∙ sym q) r l
+lays-plain b c y a p q r d i o h l = lays b c y a d i o h (p ∙ ap plain (accepted-number b c y) ∙ sym q) r l
 
 -- ---- no sum can wrap
 -- no balance is above the ceiling where none of the list is

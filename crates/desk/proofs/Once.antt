@@ -1,32 +1,51 @@
--- Any two results that a public function's contract allows coincide: each contract is an equation. Of the tests on fields (is_within, is_member, is_asset, is_domain, is_amount, is_payee) one lemma speaks for all.
-use Prim.Native.Nat.{ℕ}
-use mathlib.Core.Path.{_≡_}
-use mathlib.Core.Bool.{Bool, cond}
-use mathlib.Core.List.{List}
-use Rattle.rules.specs.declared.answers.Refusal.{Refusal}
-use Rattle.rules.specs.declared.answers.Answer.{Answer}
-use Rattle.rules.specs.Effects.{balance}
-use Rattle.rules.proofs.Told.{once}
-use Rattle.desk.specs.Parts.{ofEight, isDone}
-use Rattle.desk.specs.Kept.{eightSet, balanceSet}
+-- Any two results that a public function's contract allows coincide (`Coincide` of `rules`).
+use Rattle.rules.specs.Coincide.{Coincide}
+use Rattle.rules.proofs.Coincide.{value, first}
+use Rattle.desk.proofs.answers.refuse as refuse
+use Rattle.desk.proofs.answers.is_done as is-done
+use Rattle.desk.proofs.fields.is_within as is-within
+use Rattle.desk.proofs.fields.is_member as is-member
+use Rattle.desk.proofs.fields.is_asset as is-asset
+use Rattle.desk.proofs.fields.is_domain as is-domain
+use Rattle.desk.proofs.fields.is_amount as is-amount
+use Rattle.desk.proofs.fields.is_payee as is-payee
+use Rattle.desk.proofs.fields.balance_of as balance-of
+use Rattle.desk.proofs.fields.of_eight as of-eight
+use Rattle.desk.proofs.keep.set_balance as set-balance
+use Rattle.desk.proofs.keep.set_of_eight as set-of-eight
 
-pub field-once : (test : ℕ → Bool) (x : ℕ) {r r′ : Bool} → r ≡ test x → r′ ≡ test x → r ≡ r′
-field-once test x = once (test x)
+pub refuse-once : Coincide refuse.ended (λ M 𝓤. refuse.clauses 𝓤)
+refuse-once w x g = value w
 
-pub balance-of-once : (bs : List ℕ) (m a : ℕ) {r r′ : ℕ} → r ≡ balance bs m a → r′ ≡ balance bs m a → r ≡ r′
-balance-of-once bs m a = once (balance bs m a)
+pub is-done-once : Coincide is-done.ended (λ M 𝓤. is-done.clauses 𝓤)
+is-done-once w x g = value w
 
-pub of-eight-once : (xs : List ℕ) (i : ℕ) {r r′ : ℕ} → r ≡ ofEight xs i → r′ ≡ ofEight xs i → r ≡ r′
-of-eight-once xs i = once (ofEight xs i)
+pub is-within-once : Coincide is-within.ended (λ M 𝓤. is-within.clauses 𝓤)
+is-within-once w x g = value w
 
-pub refuse-once : (applies : Bool) (why : Refusal) (rest : Answer) {r r′ : Answer} → r ≡ cond applies (Answer.Refused why) rest → r′ ≡ cond applies (Answer.Refused why) rest → r ≡ r′
-refuse-once applies why rest = once (cond applies (Answer.Refused why) rest)
+pub is-member-once : Coincide is-member.ended (λ M 𝓤. is-member.clauses 𝓤)
+is-member-once w x g = value w
 
-pub is-done-once : (a : Answer) {r r′ : Bool} → r ≡ isDone a → r′ ≡ isDone a → r ≡ r′
-is-done-once a = once (isDone a)
+pub is-asset-once : Coincide is-asset.ended (λ M 𝓤. is-asset.clauses 𝓤)
+is-asset-once w x g = value w
 
-pub set-balance-once : (bs : List ℕ) (m a x : ℕ) {r r′ : List ℕ} → r ≡ balanceSet bs m a x → r′ ≡ balanceSet bs m a x → r ≡ r′
-set-balance-once bs m a x = once (balanceSet bs m a x)
+pub is-domain-once : Coincide is-domain.ended (λ M 𝓤. is-domain.clauses 𝓤)
+is-domain-once w x g = value w
 
-pub set-of-eight-once : (xs : List ℕ) (i x : ℕ) {r r′ : List ℕ} → r ≡ eightSet xs i x → r′ ≡ eightSet xs i x → r ≡ r′
-set-of-eight-once xs i x = once (eightSet xs i x)
+pub is-amount-once : Coincide is-amount.ended (λ M 𝓤. is-amount.clauses 𝓤)
+is-amount-once w x g = value w
+
+pub is-payee-once : Coincide is-payee.ended (λ M 𝓤. is-payee.clauses 𝓤)
+is-payee-once w x g = value w
+
+pub balance-of-once : Coincide balance-of.ended (λ M 𝓤. balance-of.clauses 𝓤)
+balance-of-once w x g = value w
+
+pub of-eight-once : Coincide of-eight.ended (λ M 𝓤. of-eight.clauses 𝓤)
+of-eight-once w x g = value w
+
+pub set-balance-once : Coincide set-balance.ended (λ M 𝓤. set-balance.clauses 𝓤)
+set-balance-once w x g = first w
+
+pub set-of-eight-once : Coincide set-of-eight.ended (λ M 𝓤. set-of-eight.clauses 𝓤)
+set-of-eight-once w x g = first w

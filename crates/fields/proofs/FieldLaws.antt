@@ -1,5 +1,5 @@
 -- The loops of the field reader: what is left after i bytes, one byte more, and the end.
-use Prim.Native.Nat.{ℕ, suc, _+_, _-_, _*_, _≤_, _<_}
+use Prim.Native.Nat.{ℕ, zero, suc, _+_, _-_, _*_, _≤_, _<_}
 use mathlib.Core.Path.{_≡_, refl, sym, ap, _∙_}
 use mathlib.Core.Bool.{Bool, true, false, not, _&&_, cond, and-false, and-true}
 use mathlib.Core.List.{List, [], _∷_}
@@ -7,12 +7,12 @@ use native.Mathlib.Numerals.{add-one}
 use native.Mathlib.Omega.{arith}
 use lib.Dec.{leb, eqb}
 use lib.ListN.{length, getD, take, drop, length-drop, drop-of-length-le}
-use lib.Seq.{drop-cons, take-all}
+use lib.Seq.{drop-cons, drop-drop, take-all}
 use borrow.Author.Tests.{eq-eqb, ne-eqb, le-ltb, lt-ltb, le-leb, lt-leb, leb-false}
 use Rattle.rules.specs.declared.calls.Field.{Field}
 use Rattle.rules.specs.Limits.{highestField}
 use Rattle.rules.specs.Lists.{all, indexOf}
-use Rattle.rules.specs.Lines.{tab, fieldEnd, firstField, isDigit, valueAfter, leadingZero, readsAsNumber, number}
+use Rattle.rules.specs.Lines.{tab, fieldEnd, firstField, afterField, isDigit, valueAfter, leadingZero, readsAsNumber, number}
 use Rattle.fields.specs.declared.ReadField.{ReadField}
 use Rattle.fields.specs.Reading.{oneMore, digitsAfter, isShaped, nextField, placed, nextEnd, nextRead, digitsRead, taken}
 
@@ -38,6 +38,17 @@ end-within (b ∷ s) = go (eqb tab b) (end-within s)
     go : (t : Bool) → fieldEnd s ≤ length s → cond t 0 (suc (fieldEnd s)) ≤ suc (length s)
     go true h = omega arith
     go false h = omega arith
+
+-- at any place of a field the part after it is the same
+pub same-part : (s : List ℕ) (at : ℕ) → at ≤ fieldEnd s → afterField (drop at s) ≡ afterField s
+unfolding fieldEnd indexOf
+same-part s zero h = refl
+same-part [] (suc at) h = absurd (omega arith)
+same-part (b ∷ s) (suc at) h = go (eqb tab b) h (same-part s at)
+  where
+    go : (t : Bool) → suc at ≤ cond t 0 (suc (fieldEnd s)) → (at ≤ fieldEnd s → afterField (drop at s) ≡ afterField s) → afterField (drop at s) ≡ drop (cond t 0 (suc (fieldEnd s))) (b ∷ s)
+    go true l later = absurd (omega arith)
+    go false l later = later (omega arith)
 
 -- a part from a place on, as the code takes it
 pub from-on : {A : Type 0} (s : List A) (a : ℕ) → take (length s - a) (drop a s) ≡ drop a s
@@ -161,6 +172,15 @@ part-read s {end} e =
     let h : end ≡ 1 + fieldEnd (drop 1 s) = end-read s e in
     let k : end - 1 ≡ fieldEnd (drop 1 s) = omega arith in
     rw k
+
+-- where the field that was read ends nothing of it is left, so the part after it begins there
+pub after-read : (s : List ℕ) {n end : ℕ} → nextRead s ≡ ReadField.Number n end → afterField (drop end s) ≡ drop end s
+unfolding nextRead nextEnd endOf
+after-read s {n} {end} e =
+    let h : end ≡ nextEnd s = sym (ap (endOf (nextEnd s)) e) ∙ placed-end (nextEnd s) (nextField s) in
+    let field : List ℕ = drop 1 s in
+    let part : drop end s ≡ afterField field = ap (λ (k : ℕ). drop k s) h ∙ sym (drop-drop (fieldEnd field) 1 s) in
+    ap afterField part ∙ same-part field (fieldEnd field) (omega arith) ∙ sym part
 
 pub end-bound : (s : List ℕ) → 1 ≤ length s → 1 + fieldEnd (drop 1 s) ≤ length s
 end-bound s h = let l : length (drop 1 s) ≡ length s - 1 = length-drop 1 s in omega (arith, end-within (drop 1 s))

@@ -1,19 +1,19 @@
--- Any two results that a public function's contract allows coincide: each contract is an equation of the result.
-use Prim.Native.Nat.{ℕ}
+-- Any two results that a public function's contract allows coincide (`Coincide` of `rules`).
 use mathlib.Core.Path.{_≡_}
-use mathlib.Core.List.{List}
-use lib.ListN.{drop}
-use Rattle.rules.specs.Lines.{fieldEnd}
+use denote.Ref.{now}
+use Rattle.rules.specs.Coincide.{Coincide, AnyTwo}
 use Rattle.rules.proofs.Told.{once}
-use Rattle.fields.specs.declared.ReadField.{ReadField}
-use Rattle.fields.specs.Reading.{nextRead}
+use Rattle.rules.proofs.Coincide.{both, value}
+use Rattle.fields.proofs.field_end as field-end
+use Rattle.fields.proofs.after_field as after-field
+use Rattle.fields.proofs.next_field as next-field
 
--- ---- the field reader
-pub field-end-once : (s : List ℕ) {r r′ : ℕ} → r ≡ fieldEnd s → r′ ≡ fieldEnd s → r ≡ r′
-field-end-once s = once (fieldEnd s)
+pub field-end-once : Coincide field-end.ended (λ M 𝓤. field-end.clauses 𝓤)
+field-end-once w x g = value w
 
-pub after-field-once : (s : List ℕ) (end : ℕ) {r r′ : List ℕ} → r ≡ drop end s → r′ ≡ drop end s → r ≡ r′
-after-field-once s end = once (drop end s)
+-- every byte of the part of the line that is handed back
+pub after-field-once : AnyTwo after-field.ended (λ M 𝓤. after-field.clauses 𝓤) (λ x. now (x .result) ≡ now (x .result′))
+after-field-once w x g = both w (once _)
 
-pub next-field-once : (s : List ℕ) {r r′ : ReadField} → r ≡ nextRead s → r′ ≡ nextRead s → r ≡ r′
-next-field-once s = once (nextRead s)
+pub next-field-once : Coincide next-field.ended (λ M 𝓤. next-field.clauses 𝓤)
+next-field-once w x g = value w

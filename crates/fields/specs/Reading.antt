@@ -46,5 +46,5 @@ digitsRead s = placed (nextEnd s) (digitsAfter 0 (firstField (drop 1 s)))
 
 -- what a field's number makes, or that it is none
 unfoldable pub taken : {A : Type 0} → A → (ℕ → A) → Field → A
-taken not made (Field.Number n) = made n
-taken not made Field.NotANumber = not
+taken otherwise made (Field.Number n) = made n
+taken otherwise made Field.NotANumber = otherwise

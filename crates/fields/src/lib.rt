@@ -2,7 +2,7 @@
 use rules::calls::Field;
 ghost use mathlib.Core.Path.{_≡_};
 ghost use lib.ListN.{drop};
-ghost use Rattle.rules.specs.Lines.{fieldEnd, leadingZero};
+ghost use Rattle.rules.specs.Lines.{fieldEnd, afterField, leadingZero};
 ghost use Rattle.fields.specs.Reading.{oneMore, isShaped, digitsRead, nextRead};
 
 // What the field reader answers: the field's number and where the part after the field begins, or that it
@@ -26,15 +26,22 @@ pub fn field_end(s: &[u8]) -> usize
     i
 }
 
-// "The field reader hands back the part of the line after the field", from the field's end on: it begins
-// with the next field's tab, and is empty where the line ends.
-pub fn after_field(s: &[u8], end: usize) -> &[u8]
-    ensures { λ r. ⌜ now r ≡ drop end (now (s .entry)) ⌝ }
+// "The field reader hands back the part of the line after the field", of the field that stands at place
+// `at`: at any place of a field it is the same part. Where `next_field` says that the field ends stands its
+// tab, or the line ends too, and one look is all. The part begins with the next field's tab, and is empty
+// where the line ends.
+pub fn after_field(s: &[u8], at: usize) -> &[u8]
+    ensures { λ r. ⌜ now r ≡ afterField (drop at (now (s .entry))) ⌝ }
 {
-    if s.len() < end {
+    if s.len() <= at {
         return &s[s.len()..];
     }
-    &s[end..]
+    let field = &s[at..];
+    if s[at] == 9 {
+        return field;
+    }
+    let end = field_end(field);
+    &field[end..]
 }
 
 // The number of the field that follows in a part that was handed back: one pass from its tab, which is

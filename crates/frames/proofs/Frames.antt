@@ -14,7 +14,8 @@ use Rattle.rules.specs.Tables.{rowsOf, depositShape, paymentShape}
 use Rattle.rules.specs.State.{Book}
 use Rattle.rules.specs.Frame.{depositInLimits, paymentInLimits, numbersRise, noncesFrom, noncesRise, inFrame}
 use Rattle.rules.proofs.Laying.{length-rows}
-use Rattle.tables.proofs.Rest.{passes, rest, rowAt, rest-all, passes-fails, passes-goes, passes-end, cell, cell0}
+use Rattle.tables.specs.Rows.{rowAt}
+use Rattle.tables.proofs.Rest.{passes, rest, rest-all, passes-fails, passes-goes, passes-end, cell, cell0}
 use Rattle.frames.specs.Parts.{inboxFrame, outboxFrame, listsFrame, countsFrame, countsOf}
 use Rattle.frames.proofs.Laws.{two-by-two, and-left-comm}
 

@@ -1,15 +1,11 @@
--- Any two results that a public function's contract allows coincide: each contract is an equation.
-use mathlib.Core.Path.{_≡_}
-use mathlib.Core.Bool.{Bool}
-use Rattle.rules.specs.declared.desk.Desk.{Desk}
-use Rattle.rules.specs.State.{Book}
-use Rattle.rules.specs.Frame.{inFrame}
-use Rattle.rules.proofs.Told.{once}
-use Rattle.frames.specs.declared.Counts.{Counts}
-use Rattle.frames.specs.Parts.{countsOf}
+-- Any two results that a public function's contract allows coincide (`Coincide` of `rules`).
+use Rattle.rules.specs.Coincide.{Coincide}
+use Rattle.rules.proofs.Coincide.{value}
+use Rattle.frames.proofs.in_frame as in-frame
+use Rattle.frames.proofs.counts_of as counts-of
 
-pub in-frame-once : (b : Book) {r r′ : Bool} → r ≡ inFrame b → r′ ≡ inFrame b → r ≡ r′
-in-frame-once b = once (inFrame b)
+pub in-frame-once : Coincide in-frame.ended (λ M 𝓤. in-frame.clauses 𝓤)
+in-frame-once w x g = value w
 
-pub counts-of-once : (d : Desk) {r r′ : Counts} → r ≡ countsOf d → r′ ≡ countsOf d → r ≡ r′
-counts-of-once d = once (countsOf d)
+pub counts-of-once : Coincide counts-of.ended (λ M 𝓤. counts-of.clauses 𝓤)
+counts-of-once w x g = value w

@@ -27,7 +27,7 @@ use Rattle.rules.proofs.Tests.{neither, not-holds, twice-not, all-at, none-appl
 use Rattle.rules.proofs.Accepts.{not-done}
 use Rattle.desk.specs.Parts.{isDone}
 use Rattle.desk.proofs.Chains.{Entry, chain, notBelow, chain-told, done-number, refused-number}
-use Rattle.desk.proofs.Books.{Framed, framed}
+use Rattle.rules.proofs.Books.{Framed, framed}
 use Rattle.lots.specs.Traces.{beforePayment}
 use Rattle.history.specs.Tracing.{traceOutcomeOf, traceNumberFor}
 use Rattle.replays.specs.Replaying.{CanTrace, Traces}
@@ -98,7 +98,6 @@ module _ (b : Book) (work out : List Lot) (n : Nonce) (a : Answer) (tells : told
       let (w, p) = neither (ltb (length work) (length (historyOf b))) (ltb (length out) (length (historyOf b))) (no 1) in
       record {
         few = f .records;
-        lie = omega arith;
         room = omega (arith, count, ltb-false (length work) (length (historyOf b)) (not-holds (ltb (length work) (length (historyOf b))) w));
         places = omega (arith, count, ltb-false (length out) (length (historyOf b)) (not-holds (ltb (length out) (length (historyOf b))) p));
         scratch = e;

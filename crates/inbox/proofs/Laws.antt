@@ -1,11 +1,11 @@
 -- What deposit and claim refuse, as the code's chain; and what a done one lays back.
-use Prim.Native.Nat.{ℕ, zero, suc, _+_, _-_, _*_, _≤_, _<_, zero-le, suc-le-suc}
+use Prim.Native.Nat.{ℕ, zero, suc, _+_, _-_, _*_, _≤_, _<_}
 use mathlib.Core.Path.{_≡_, refl, sym, ap, _∙_}
-use mathlib.Core.Bool.{Bool, true, false, not, _||_, cond, and-true}
+use mathlib.Core.Bool.{Bool, true, false, not, _||_, and-true}
 use mathlib.Core.List.{List, [], _∷_, _++_}
 use native.Mathlib.Nat.{add-zero}
 use native.Mathlib.Omega.{arith}
-use lib.Dec.{leb, ltb, eqb, eqb·zero-suc, eqb·suc-suc}
+use lib.Dec.{leb, ltb, eqb}
 use lib.ListN.{length, take, drop, length-append, length-drop}
 use lib.Seq.{length-take-le}
 use borrow.Author.Tests.{le-leb, lt-ltb, le-ltb, ltb-true, eq-eqb, ne-eqb, eqb-true, eqb-false}
@@ -16,21 +16,22 @@ use Rattle.rules.specs.declared.calls.ClaimFields.{ClaimFields}
 use Rattle.rules.specs.declared.answers.Refusal.{Refusal}
 use Rattle.rules.specs.Limits.{ceiling, highestNumber, isMember, isAsset, isAmount}
 use Rattle.rules.specs.Lists.{all, any, same, indexOf}
-use Rattle.rules.specs.Tables.{Edit, rowsOf, lay, edited, editedTable, HasRoom, depositShape, recordShape}
+use Rattle.rules.specs.Tables.{Edit, rowsOf, lay, edited, editedTable, depositShape, recordShape}
 use Rattle.rules.specs.State.{Book, view, laid, deskOf, inboxOf, historyOf}
 use Rattle.rules.specs.Replies.{numberOf, told, plain}
 use Rattle.rules.specs.Refusals.{refusals, full}
 use Rattle.rules.specs.Effects.{total, matches, deposited, effect, balancesAfter, holdersAfter, inboxEdit, outsideAfter, recordsOf}
 use Rattle.rules.specs.Frame.{inFrame}
 use Rattle.rules.specs.Answer.{frameTest, replyNumber, bookOf}
-use Rattle.rules.proofs.Laying.{length-rows, lay-edited}
+use Rattle.rules.proofs.Laying.{RoomFor, length-rows, lay-edited}
 use Rattle.rules.proofs.Shapes.{depositSound}
 use Rattle.rules.specs.Facts.{Accepted, DepositFit, ClaimFit}
 use Rattle.rules.proofs.Accepts.{fit, accepted-frame}
 use Rattle.tables.specs.Rows.{bare, putAt, takenOut, placeOf}
 use Rattle.desk.specs.Parts.{ofEight}
 use Rattle.desk.proofs.Chains.{Entry, chain, notBelow, chain-told, chain-frame}
-use Rattle.desk.proofs.Books.{Framed, framed, outbox-kept, history-kept, record-added, inbox-count, outbox-count, flight-count, history-count}
+use Rattle.rules.proofs.Books.{none-found, index-found, Framed, framed, outbox-kept, history-kept, inbox-count, outbox-count, flight-count, history-count}
+use Rattle.desk.proofs.Books.{record-added}
 use Rattle.inbox.specs.After.{depositedDesk, claimedDesk, rowOf, isGap, passesCeiling, CanDeposit, CanClaim}
 
 -- ---- tests on any two numbers
@@ -86,7 +87,7 @@ can-deposit b x a =
 -- one deposit more at the end of the inbox
 deposit-added : (b : Book) (x : Deposit) → Framed b → b .desk .unclaimed < 64
     → lay depositShape (inboxOf b ++ (x ∷ [])) (b .desk .unclaimed) (b .inbox) ≡ putAt (b .desk .unclaimed * 4) (depositShape .flat x) (b .inbox)
-unfolding edited editedTable HasRoom putAt
+unfolding edited editedTable RoomFor putAt
 deposit-added b x f h =
     rw (le-leb (b .desk .unclaimed * 4 + 4) (length (b .inbox)) (omega arith))
     (lay-edited depositShape depositSound (Edit.add x) (b .desk .unclaimed) (b .inbox) (omega arith))
@@ -99,16 +100,6 @@ deposit-laid b x f h =
     rw (deposit-added b x f h, outbox-kept b f, history-kept b f, length-append (inboxOf b) (x ∷ []), inbox-count b f, outbox-count b f, flight-count b f, history-count b f [], add-zero)
 
 -- ---- the place of the deposit that a claim names
--- none passes where the place of the first that does is past the last
-pub none-found : {A : Type 0} (p : A → Bool) (l : List A) → not (any p l) ≡ eqb (indexOf p l) (length l)
-unfolding any indexOf
-none-found p [] = refl
-none-found p (x ∷ l) = go (p x) (none-found p l)
-  where
-    go : (t : Bool) → not (any p l) ≡ eqb (indexOf p l) (length l) → not (t || any p l) ≡ eqb (cond t 0 (suc (indexOf p l))) (suc (length l))
-    go true ih = sym (eqb·zero-suc (length l))
-    go false ih = ih ∙ sym (eqb·suc-suc (indexOf p l) (length l))
-
 eqb-comm : (a b : ℕ) → eqb a b ≡ eqb b a
 eqb-comm a b = go (eqb a b) refl
   where
@@ -163,25 +154,13 @@ claim-told b c =
     found h =
         rw (place-is b c (framed b h), none-found (matches c) (inboxOf b), length-rows depositShape (b .desk .unclaimed) (b .inbox))
 
--- it is one of the rows, or past them
-index-le : {A : Type 0} (p : A → Bool) (l : List A) → indexOf p l ≤ length l
-unfolding indexOf
-index-le p [] = zero-le
-index-le p (x ∷ l) = go (p x) (index-le p l)
-  where
-    go : (t : Bool) → indexOf p l ≤ length l → cond t 0 (suc (indexOf p l)) ≤ suc (length l)
-    go true h = zero-le
-    go false h = suc-le-suc h
-
 -- the place of a claimed deposit is one of the used rows
 pub claim-place : (b : Book) (c : ClaimFields) → Accepted b (Call.Claim c) → indexOf (matches c) (inboxOf b) < b .desk .unclaimed
 unfolding view
 claim-place b c a =
     let q : ClaimFit (view b) c = fit b (Call.Claim c) a in
     let l : length (inboxOf b) ≡ b .desk .unclaimed = length-rows depositShape (b .desk .unclaimed) (b .inbox) in
-    let e : eqb (indexOf (matches c) (inboxOf b)) (length (inboxOf b)) ≡ false = sym (none-found (matches c) (inboxOf b)) ∙ ap not (q .found) in
-    let n : indexOf (matches c) (inboxOf b) ≡ length (inboxOf b) → ⊥ = eqb-false (indexOf (matches c) (inboxOf b)) (length (inboxOf b)) e in
-    omega (arith, index-le (matches c) (inboxOf b))
+    omega (arith, index-found (matches c) (inboxOf b) (q .found))
 
 pub can-claim : (b : Book) (c : ClaimFields) → Accepted b (Call.Claim c) → CanClaim (b .desk) c
 unfolding view
@@ -201,7 +180,7 @@ can-claim b c a =
 -- the claimed row leaves: "the rest keeping their order", and the last used row becomes zeros
 claim-taken : (b : Book) (i : ℕ) → Framed b → i < b .desk .unclaimed
     → lay depositShape (edited (Edit.takeOut i) (inboxOf b)) (b .desk .unclaimed) (b .inbox) ≡ takenOut 4 i (b .desk .unclaimed) (b .inbox)
-unfolding editedTable HasRoom takenOut
+unfolding editedTable RoomFor takenOut
 claim-taken b i f h =
     rw (le-leb (b .desk .unclaimed * 4) (length (b .inbox)) (omega arith), lt-ltb i (b .desk .unclaimed) h)
     (lay-edited depositShape depositSound (Edit.takeOut i) (b .desk .unclaimed) (b .inbox) (h, omega arith))

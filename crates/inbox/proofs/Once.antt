@@ -1,27 +1,28 @@
--- Any two results that a call's contract allows coincide: the answer, the desk, and every number of the three tables; and any two answers of a table of refusals.
-use mathlib.Core.Path.{_≡_, sym, _∙_}
-use mathlib.Core.List.{List}
-use Prim.Native.Nat.{ℕ}
-use Rattle.rules.specs.declared.calls.Call.{Call}
-use Rattle.rules.specs.declared.calls.ClaimFields.{ClaimFields}
-use Rattle.rules.specs.declared.rows.Deposit.{Deposit}
-use Rattle.rules.specs.declared.answers.Answer.{Answer}
-use Rattle.rules.specs.declared.answers.Answered.{Answered}
-use Rattle.rules.specs.State.{Book}
-use Rattle.rules.specs.Replies.{told, plain}
-use Rattle.rules.specs.Answer.{answer, replyNumber, outcomeOf}
-use Rattle.rules.proofs.Told.{told-once, outcome-once}
+-- Any two results that a public function's contract allows coincide (`Coincide` of `rules`).
+use Rattle.rules.specs.Coincide.{Coincide}
+use Rattle.rules.proofs.Told.{outcome-once}
+use Rattle.rules.proofs.Coincide.{both, reply}
+use Rattle.inbox.proofs.deposit as deposit
+use Rattle.inbox.proofs.deposit_done as deposit-done
+use Rattle.inbox.proofs.deposit_reply as deposit-reply
+use Rattle.inbox.proofs.claim as claim
+use Rattle.inbox.proofs.claim_done as claim-done
+use Rattle.inbox.proofs.claim_reply as claim-reply
 
-pub deposit-once : (b : Book) (x : Deposit) (r r′ : Answered) (i i′ o o′ h h′ : List ℕ) → outcomeOf r i o h ≡ answer b (Call.Deposit x) → outcomeOf r′ i′ o′ h′ ≡ answer b (Call.Deposit x)
-    → (r ≡ r′) × (i ≡ i′) × (o ≡ o′) × (h ≡ h′)
-deposit-once b x = outcome-once (answer b (Call.Deposit x))
+pub deposit-once : Coincide deposit.ended (λ M 𝓤. deposit.clauses 𝓤)
+deposit-once w x g = both w (λ p q. let o = outcome-once _ p q in (o .0, λ j. (tt, (o .1 j, (tt, (tt, (tt, tt)))))))
 
-pub claim-once : (b : Book) (x : ClaimFields) (r r′ : Answered) (i i′ o o′ h h′ : List ℕ) → outcomeOf r i o h ≡ answer b (Call.Claim x) → outcomeOf r′ i′ o′ h′ ≡ answer b (Call.Claim x)
-    → (r ≡ r′) × (i ≡ i′) × (o ≡ o′) × (h ≡ h′)
-claim-once b x = outcome-once (answer b (Call.Claim x))
+pub deposit-done-once : Coincide deposit-done.ended (λ M 𝓤. deposit-done.clauses 𝓤)
+deposit-done-once = deposit-once
 
-pub deposit-reply-once : (b : Book) (x : Deposit) (r r′ : Answer) → told r ≡ plain (replyNumber b (Call.Deposit x)) → told r′ ≡ plain (replyNumber b (Call.Deposit x)) → r ≡ r′
-deposit-reply-once b x r r′ p q = told-once r r′ (p ∙ sym q)
+pub deposit-reply-once : Coincide deposit-reply.ended (λ M 𝓤. deposit-reply.clauses 𝓤)
+deposit-reply-once w x g = reply w
 
-pub claim-reply-once : (b : Book) (x : ClaimFields) (r r′ : Answer) → told r ≡ plain (replyNumber b (Call.Claim x)) → told r′ ≡ plain (replyNumber b (Call.Claim x)) → r ≡ r′
-claim-reply-once b x r r′ p q = told-once r r′ (p ∙ sym q)
+pub claim-once : Coincide claim.ended (λ M 𝓤. claim.clauses 𝓤)
+claim-once w x g = both w (λ p q. let o = outcome-once _ p q in (o .0, λ j. (tt, (o .1 j, (tt, (o .3 j, (tt, tt)))))))
+
+pub claim-done-once : Coincide claim-done.ended (λ M 𝓤. claim-done.clauses 𝓤)
+claim-done-once = claim-once
+
+pub claim-reply-once : Coincide claim-reply.ended (λ M 𝓤. claim-reply.clauses 𝓤)
+claim-reply-once w x g = reply w

@@ -1,9 +1,8 @@
 -- What transfer, grant and sign refuse, as the code's chain; and what a done one lays back.
 use Prim.Native.Nat.{_+_, _-_, _*_, _≤_, _<_}
-use mathlib.Core.Path.{_≡_, refl}
+use mathlib.Core.Path.{_≡_, refl, sym}
 use mathlib.Core.Bool.{Bool, true, false, not, _||_}
 use mathlib.Core.List.{List, [], _∷_}
-use native.Mathlib.Nat.{add-zero}
 use native.Mathlib.Omega.{arith}
 use lib.Dec.{leb, ltb, eqb}
 use lib.ListN.{length}
@@ -21,7 +20,7 @@ use Rattle.rules.specs.Tables.{edited, recordShape}
 use Rattle.rules.specs.State.{Book, view, laid, deskOf, historyOf}
 use Rattle.rules.specs.Replies.{numberOf, told, plain}
 use Rattle.rules.specs.Refusals.{refusals, full}
-use Rattle.rules.specs.Effects.{balance, debit, holder, effect, balancesAfter, holdersAfter, inboxEdit, outsideAfter, recordsOf}
+use Rattle.rules.specs.Effects.{changesNothing, balance, debit, holder, effect, balancesAfter, holdersAfter, inboxEdit, outsideAfter, recordsOf}
 use Rattle.rules.specs.Frame.{upToCeiling, inFrame}
 use Rattle.rules.specs.Answer.{frameTest, replyNumber, answer, bookOf, outcomeOf, doneAnswer, piecesOf}
 use Rattle.rules.proofs.Laying.{length-rows}
@@ -31,7 +30,8 @@ use Rattle.rules.proofs.Accepts.{fit, accepted-frame}
 use Rattle.tables.specs.Rows.{putAt}
 use Rattle.desk.specs.Parts.{ofEight, isDone}
 use Rattle.desk.proofs.Chains.{Entry, chain, notBelow, chain-told}
-use Rattle.desk.proofs.Books.{Framed, framed, balance-low, refuses, accepts, lays-plain, inbox-kept, outbox-kept, record-added, history-kept, inbox-count, outbox-count, flight-count, history-count}
+use Rattle.rules.proofs.Books.{nothing-laid, Framed, framed, inbox-kept, outbox-kept, inbox-count, outbox-count, flight-count, history-count}
+use Rattle.desk.proofs.Books.{balance-low, refuses, accepts, lays-plain, record-added}
 use Rattle.ledger.specs.After.{transferredDesk, grantedDesk, CanTransfer, CanGrant}
 
 -- ---- the tables of refusals
@@ -141,12 +141,6 @@ pub sign-told : (b : Book) (s : SignFields) → told (chain (signEntries b s)) �
 unfolding replyNumber frameTest refusals holder view numberOf notBelow all
 sign-told b s = chain-told (signEntries b s) refl
 
--- "Changes nothing.": what a done one lays is what was there
-sign-laid : (b : Book) (s : SignFields) → Framed b → b ≡ laid (effect (Call.Sign s) (view b)) b
-unfolding laid deskOf effect balancesAfter holdersAfter inboxEdit edited outsideAfter recordsOf view
-sign-laid b s f =
-    rw (inbox-kept b f, outbox-kept b f, history-kept b f, inbox-count b f, outbox-count b f, flight-count b f, history-count b f [], add-zero)
-
 pub sign-answers : (b : Book) (s : SignFields) (a : Answer) → told a ≡ plain (replyNumber b (Call.Sign s))
     → outcomeOf (record { answer = a; desk = b .desk }) (b .inbox) (b .outbox) (b .history) ≡ answer b (Call.Sign s)
 unfolding told doneAnswer piecesOf
@@ -155,5 +149,5 @@ sign-answers b s a e = go (isDone a) refl
     go : (p : Bool) → isDone a ≡ p → outcomeOf (record { answer = a; desk = b .desk }) (b .inbox) (b .outbox) (b .history) ≡ answer b (Call.Sign s)
     go true d =
         let y : Accepted b (Call.Sign s) = accepts b (Call.Sign s) a e d in
-        lays-plain b (Call.Sign s) y a e refl refl (b .desk) (b .inbox) (b .outbox) (b .history) (sign-laid b s (framed b (accepted-frame b (Call.Sign s) y)))
+        lays-plain b (Call.Sign s) y a e refl refl (b .desk) (b .inbox) (b .outbox) (b .history) (sym (nothing-laid b (Call.Sign s) (unfold changesNothing in refl) (framed b (accepted-frame b (Call.Sign s) y))))
     go false d = refuses b (Call.Sign s) a e d

@@ -1,35 +1,37 @@
--- Any two results that a call's contract allows coincide: the answer, the desk, and every number of the three tables; and any two answers that its table of refusals allows.
-use mathlib.Core.Path.{_≡_, sym, _∙_}
-use mathlib.Core.List.{List}
-use Prim.Native.Nat.{ℕ}
-use Rattle.rules.specs.declared.calls.Call.{Call}
-use Rattle.rules.specs.declared.calls.GrantFields.{GrantFields}
-use Rattle.rules.specs.declared.calls.SignFields.{SignFields}
-use Rattle.rules.specs.declared.calls.TransferFields.{TransferFields}
-use Rattle.rules.specs.declared.answers.Answer.{Answer}
-use Rattle.rules.specs.declared.answers.Answered.{Answered}
-use Rattle.rules.specs.State.{Book}
-use Rattle.rules.specs.Replies.{told, plain}
-use Rattle.rules.specs.Answer.{answer, replyNumber, outcomeOf}
-use Rattle.rules.proofs.Told.{outcome-once, told-once}
+-- Any two results that a public function's contract allows coincide (`Coincide` of `rules`).
+use mathlib.Core.Path.{refl}
+use Rattle.rules.specs.Coincide.{Coincide}
+use Rattle.rules.proofs.Told.{outcome-once}
+use Rattle.rules.proofs.Coincide.{both, reply}
+use Rattle.ledger.proofs.transfer as transfer
+use Rattle.ledger.proofs.transfer_done as transfer-done
+use Rattle.ledger.proofs.transfer_reply as transfer-reply
+use Rattle.ledger.proofs.grant as grant
+use Rattle.ledger.proofs.grant_done as grant-done
+use Rattle.ledger.proofs.grant_reply as grant-reply
+use Rattle.ledger.proofs.sign as sign
+use Rattle.ledger.proofs.sign_reply as sign-reply
 
-pub transfer-once : (b : Book) (x : TransferFields) (r r′ : Answered) (i i′ o o′ h h′ : List ℕ) → outcomeOf r i o h ≡ answer b (Call.Transfer x) → outcomeOf r′ i′ o′ h′ ≡ answer b (Call.Transfer x)
-    → (r ≡ r′) × (i ≡ i′) × (o ≡ o′) × (h ≡ h′)
-transfer-once b x = outcome-once (answer b (Call.Transfer x))
+pub transfer-once : Coincide transfer.ended (λ M 𝓤. transfer.clauses 𝓤)
+transfer-once w x g = both w (λ p q. let o = outcome-once _ p q in (o .0, λ j. (tt, (tt, (tt, (o .3 j, (tt, tt)))))))
 
-pub grant-once : (b : Book) (x : GrantFields) (r r′ : Answered) (i i′ o o′ h h′ : List ℕ) → outcomeOf r i o h ≡ answer b (Call.Grant x) → outcomeOf r′ i′ o′ h′ ≡ answer b (Call.Grant x)
-    → (r ≡ r′) × (i ≡ i′) × (o ≡ o′) × (h ≡ h′)
-grant-once b x = outcome-once (answer b (Call.Grant x))
+pub transfer-done-once : Coincide transfer-done.ended (λ M 𝓤. transfer-done.clauses 𝓤)
+transfer-done-once = transfer-once
 
-pub sign-once : (b : Book) (x : SignFields) (r r′ : Answered) (i i′ o o′ h h′ : List ℕ) → outcomeOf r i o h ≡ answer b (Call.Sign x) → outcomeOf r′ i′ o′ h′ ≡ answer b (Call.Sign x)
-    → (r ≡ r′) × (i ≡ i′) × (o ≡ o′) × (h ≡ h′)
-sign-once b x = outcome-once (answer b (Call.Sign x))
+pub transfer-reply-once : Coincide transfer-reply.ended (λ M 𝓤. transfer-reply.clauses 𝓤)
+transfer-reply-once w x g = reply w
 
-pub transfer-reply-once : (b : Book) (x : TransferFields) (r r′ : Answer) → told r ≡ plain (replyNumber b (Call.Transfer x)) → told r′ ≡ plain (replyNumber b (Call.Transfer x)) → r ≡ r′
-transfer-reply-once b x r r′ p q = told-once r r′ (p ∙ sym q)
+pub grant-once : Coincide grant.ended (λ M 𝓤. grant.clauses 𝓤)
+grant-once w x g = both w (λ p q. let o = outcome-once _ p q in (o .0, λ j. (tt, (tt, (tt, (o .3 j, (tt, tt)))))))
 
-pub grant-reply-once : (b : Book) (x : GrantFields) (r r′ : Answer) → told r ≡ plain (replyNumber b (Call.Grant x)) → told r′ ≡ plain (replyNumber b (Call.Grant x)) → r ≡ r′
-grant-reply-once b x r r′ p q = told-once r r′ (p ∙ sym q)
+pub grant-done-once : Coincide grant-done.ended (λ M 𝓤. grant-done.clauses 𝓤)
+grant-done-once = grant-once
 
-pub sign-reply-once : (b : Book) (x : SignFields) (r r′ : Answer) → told r ≡ plain (replyNumber b (Call.Sign x)) → told r′ ≡ plain (replyNumber b (Call.Sign x)) → r ≡ r′
-sign-reply-once b x r r′ p q = told-once r r′ (p ∙ sym q)
+pub grant-reply-once : Coincide grant-reply.ended (λ M 𝓤. grant-reply.clauses 𝓤)
+grant-reply-once w x g = reply w
+
+pub sign-once : Coincide sign.ended (λ M 𝓤. sign.clauses 𝓤)
+sign-once w x g = both w (λ p q. let o = outcome-once _ p q in (o .0, refl))
+
+pub sign-reply-once : Coincide sign-reply.ended (λ M 𝓤. sign-reply.clauses 𝓤)
+sign-reply-once w x g = reply w

@@ -4,6 +4,7 @@ use mathlib.Core.Path.{_≡_, refl, sym, ap, _∙_}
 use mathlib.Core.Bool.{Bool, true, false, _&&_, cond, and-eq-true-iff, false≢true}
 use mathlib.Core.List.{List, [], _∷_}
 use native.Mathlib.Numerals.{add-one}
+use native.Mathlib.Omega.{arith}
 use lib.Dec.{eqb, eqb·zero-suc, eqb·suc-zero, eqb·suc-suc}
 use lib.ListN.{length, getD, take, drop, drop-of-length-le}
 use lib.Seq.{drop-cons}
@@ -13,6 +14,7 @@ use Rattle.rules.specs.declared.calls.Line.{Line}
 use Rattle.rules.specs.Lists.{same, any, bytes}
 use Rattle.rules.specs.Lines.{fieldEnd, firstField, afterField, number, Numbers, andRead, numbers, Form, depositForm, claimForm, transferForm, withdrawForm, sendForm, settleForm, grantForm, signForm, traceForm, forms, formed, formedOf, readFields, readLine}
 use Rattle.rules.proofs.ReadBack.{fieldsAfter, fields-first}
+use Rattle.fields.proofs.FieldLaws.{same-part}
 use Rattle.lines.proofs.TakingLaws.{taken-ap}
 use Rattle.fields.specs.Reading.{nextField, taken}
 use Rattle.lines.specs.Reading.{afterNext, taking, readsAs}
@@ -46,31 +48,31 @@ same-eq (x ∷ w) (y ∷ f) h =
 -- ---- the numbers of a line
 -- what so many numbers make
 counted : {A : Type 0} → ℕ → A → (List ℕ → A) → Numbers → A
-counted k not made (Numbers.allRead ns) = cond (eqb (length ns) k) (made ns) not
-counted k not made Numbers.oneNot = not
+counted k otherwise made (Numbers.allRead ns) = cond (eqb (length ns) k) (made ns) otherwise
+counted k otherwise made Numbers.oneNot = otherwise
 
-counted-none : {A : Type 0} (not : A) (made : List ℕ → A) (f : Field) (ns : Numbers) → counted 0 not made (andRead f ns) ≡ not
+counted-none : {A : Type 0} (otherwise : A) (made : List ℕ → A) (f : Field) (ns : Numbers) → counted 0 otherwise made (andRead f ns) ≡ otherwise
 unfolding counted andRead
-counted-none not made (Field.Number n) (Numbers.allRead ns) = rw (eqb·suc-zero (length ns))
-counted-none not made (Field.Number n) Numbers.oneNot = refl
-counted-none not made Field.NotANumber ns = refl
+counted-none otherwise made (Field.Number n) (Numbers.allRead ns) = rw (eqb·suc-zero (length ns))
+counted-none otherwise made (Field.Number n) Numbers.oneNot = refl
+counted-none otherwise made Field.NotANumber ns = refl
 
-counted-more : {A : Type 0} (k : ℕ) (not : A) (made : List ℕ → A) (f : Field) (ns : Numbers)
-    → counted (suc k) not made (andRead f ns) ≡ taken not (λ n. counted k not (λ ms. made (n ∷ ms)) ns) f
+counted-more : {A : Type 0} (k : ℕ) (otherwise : A) (made : List ℕ → A) (f : Field) (ns : Numbers)
+    → counted (suc k) otherwise made (andRead f ns) ≡ taken otherwise (λ n. counted k otherwise (λ ms. made (n ∷ ms)) ns) f
 unfolding counted andRead taken
-counted-more k not made (Field.Number n) (Numbers.allRead ns) = rw (eqb·suc-suc (length ns) k)
-counted-more k not made (Field.Number n) Numbers.oneNot = refl
-counted-more k not made Field.NotANumber ns = refl
+counted-more k otherwise made (Field.Number n) (Numbers.allRead ns) = rw (eqb·suc-suc (length ns) k)
+counted-more k otherwise made (Field.Number n) Numbers.oneNot = refl
+counted-more k otherwise made Field.NotANumber ns = refl
 
 -- all fields of a part read and counted, or taken one at a time: the same
-counted-taking : {A : Type 0} (k : ℕ) (not : A) (made : List ℕ → A) (s : List ℕ) → counted k not made (numbers (fieldsAfter s)) ≡ taking k not made s
+counted-taking : {A : Type 0} (k : ℕ) (otherwise : A) (made : List ℕ → A) (s : List ℕ) → counted k otherwise made (numbers (fieldsAfter s)) ≡ taking k otherwise made s
 unfolding counted numbers fieldsAfter taking nextField afterNext taken
-counted-taking zero not made [] = refl
-counted-taking zero not made (t ∷ rest) = rw (fields-first rest) (counted-none not made (number (firstField rest)) (numbers (fieldsAfter (afterField rest))))
-counted-taking (suc k) not made [] = rw (eqb·zero-suc k)
-counted-taking (suc k) not made (t ∷ rest) =
-    rw (fields-first rest) (counted-more k not made (number (firstField rest)) (numbers (fieldsAfter (afterField rest))))
-    ∙ taken-ap not (λ n. counted k not (λ ms. made (n ∷ ms)) (numbers (fieldsAfter (afterField rest)))) (λ n. taking k not (λ ms. made (n ∷ ms)) (afterField rest)) (λ n. counted-taking k not (λ ms. made (n ∷ ms)) (afterField rest)) (number (firstField rest))
+counted-taking zero otherwise made [] = refl
+counted-taking zero otherwise made (t ∷ rest) = rw (fields-first rest) (counted-none otherwise made (number (firstField rest)) (numbers (fieldsAfter (afterField rest))))
+counted-taking (suc k) otherwise made [] = rw (eqb·zero-suc k)
+counted-taking (suc k) otherwise made (t ∷ rest) =
+    rw (fields-first rest) (counted-more k otherwise made (number (firstField rest)) (numbers (fieldsAfter (afterField rest))))
+    ∙ taken-ap otherwise (λ n. counted k otherwise (λ ms. made (n ∷ ms)) (numbers (fieldsAfter (afterField rest)))) (λ n. taking k otherwise (λ ms. made (n ∷ ms)) (afterField rest)) (λ n. counted-taking k otherwise (λ ms. made (n ∷ ms)) (afterField rest)) (number (firstField rest))
 
 -- ---- the line
 -- a form whose word no other form has
@@ -100,12 +102,12 @@ module _ (s : List ℕ) where
   module _ {end : ℕ} (h : length s ≤ 120) (where-it-ends : end ≡ fieldEnd s) where
     -- the first field is the word of a form that no other form has: that form's function reads the rest
     pub line-form : (f : Form) → Alone f → {r : Line} {rest : List ℕ} {t : Bool} → t ≡ same (f .word) (take end s) → t ≡ true
-        → rest ≡ drop end s → r ≡ readsAs f rest → r ≡ readLine s
+        → rest ≡ afterField (drop end s) → r ≡ readsAs f rest → r ≡ readLine s
     unfolding formedOf readsAs counted
     line-form f a {r} e t p q =
         let w : f .word ≡ firstField s = same-eq (f .word) (firstField s) (sym (rw where-it-ends at e) ∙ t) in
         q
-        ∙ ap (readsAs f) (rw where-it-ends at p)
+        ∙ ap (readsAs f) (rw where-it-ends at p ∙ same-part s (fieldEnd s) (omega arith))
         ∙ sym (parts h ∙ rw (← w) (go (numbers (fieldsAfter (afterField s)))) ∙ counted-taking (f .count) Line.Malformed (λ ns. Line.Reads (f .call ns)) (afterField s))
       where
         go : (ns : Numbers) → formedOf (f .word) ns ≡ counted (f .count) Line.Malformed (λ ms. Line.Reads (f .call ms)) ns

@@ -13,9 +13,9 @@ afterNext (t ∷ rest) = afterField rest
 
 -- what exactly so many numbers make, taken one at a time, each after its tab; where one is missing or no number, or something comes after the last, that they are not there
 unfoldable pub taking : {A : Type 0} → ℕ → A → (List ℕ → A) → List ℕ → A
-taking zero not made [] = made []
-taking zero not made (t ∷ rest) = not
-taking (suc k) not made s = taken not (λ n. taking k not (λ ns. made (n ∷ ns)) (afterNext s)) (nextField s)
+taking zero otherwise made [] = made []
+taking zero otherwise made (t ∷ rest) = otherwise
+taking (suc k) otherwise made s = taken otherwise (λ n. taking k otherwise (λ ns. made (n ∷ ns)) (afterNext s)) (nextField s)
 
 -- the number of a field with nothing after it
 unfoldable pub lastField : List ℕ → Field

@@ -5,7 +5,7 @@ use mathlib.Core.Bool.{Bool, true, false, not, _||_}
 use mathlib.Core.List.{List, [], _∷_}
 use native.Mathlib.Omega.{arith}
 use lib.Dec.{leb, ltb}
-use lib.ListN.{length, take, drop}
+use lib.ListN.{length, take, drop, replicate}
 use lib.Seq.{take-append-seam}
 use borrow.Author.Tests.{leb-true, le-ltb}
 use Rattle.rules.specs.declared.rows.Nonce.{Nonce}
@@ -18,8 +18,10 @@ use Rattle.rules.specs.Replies.{numberOf, smallest, if-done}
 use Rattle.rules.specs.Refusals.{refusals, traceRefusals}
 use Rattle.rules.specs.Frame.{inFrame}
 use Rattle.rules.specs.History.{withdrawals, historyInFrame}
-use Rattle.rules.specs.Lots.{pieces}
+use Rattle.rules.specs.Lots.{noLot, pieces}
 use Rattle.rules.specs.Answer.{frameTest, replyNumber, piecesOf, doneAnswer, answer, inFront, traceNumber, traceAnswer}
+use Rattle.rules.specs.Facts.{Accepted}
+use Rattle.rules.proofs.Accepts.{accepted-number}
 use Rattle.rules.proofs.Laying.{length-rows}
 use Rattle.rules.proofs.Tests.{ands-at}
 
@@ -81,3 +83,10 @@ module _ (b : Book) (work out : List Lot) (n : Nonce) (w : Enough b (length work
       go : (k : ℕ) → take (length (if-done k ps [])) (if-done k (inFront ps out) out) ≡ if-done k ps []
       go zero = take-append-seam ps (drop (length ps) out)
       go (suc k) = refl
+
+  -- where the trace is done, all that it leaves: zeros in every row of the work table, the pieces in front of theirs, the rest as it was
+  pub trace-lent : Accepted b (Call.Trace n)
+      → traceAnswer b work out n
+      ≡ record { reply = answer b (Call.Trace n) .reply; work = replicate (length work) noLot; pieces = inFront (answer b (Call.Trace n) .pieces) out }
+  unfolding answer traceAnswer doneAnswer piecesOf view
+  trace-lent a = rw (← trace-number, accepted-number b (Call.Trace n) a)

@@ -17,14 +17,14 @@ use Rattle.rules.specs.declared.calls.WithdrawalFields.{WithdrawalFields}
 use Rattle.rules.specs.declared.answers.Refusal.{Refusal}
 use Rattle.rules.specs.Limits.{ceiling, outboxRows, isMember, isAsset, isAmount, isPayee}
 use Rattle.rules.specs.Lists.{all}
-use Rattle.rules.specs.Tables.{Edit, rowsOf, lay, edited, editedTable, HasRoom, paymentShape, recordShape}
+use Rattle.rules.specs.Tables.{Edit, rowsOf, lay, edited, editedTable, paymentShape, recordShape}
 use Rattle.rules.specs.State.{Book, view, laid, deskOf, outboxOf, historyOf, payments}
 use Rattle.rules.specs.Replies.{numberOf, told, plain}
 use Rattle.rules.specs.Refusals.{refusals, full}
 use Rattle.rules.specs.Effects.{balance, oldest, paymentOf, withdrawn, sent, settledOne, effect, balancesAfter, holdersAfter, inboxEdit, outsideAfter, recordsOf}
 use Rattle.rules.specs.Frame.{hasRows, upToCeiling, paymentInLimits, noncesRise, inFrame}
 use Rattle.rules.specs.Answer.{frameTest, replyNumber, bookOf}
-use Rattle.rules.proofs.Laying.{length-rows, take-rows, drop-rows, lay-edited}
+use Rattle.rules.proofs.Laying.{RoomFor, length-rows, take-rows, drop-rows, lay-edited}
 use Rattle.rules.proofs.Shapes.{paymentSound}
 use Rattle.rules.specs.Facts.{Accepted, WithdrawalFit, SendFit, SettleFit}
 use Rattle.rules.proofs.Tests.{both, within-true, true-within, all-at}
@@ -34,7 +34,8 @@ use Rattle.desk.specs.Parts.{ofEight}
 use Rattle.frames.specs.Parts.{countsFrame, countsOf, listsFrame, inboxFrame, outboxFrame}
 use Rattle.frames.proofs.Frames.{frame-parts}
 use Rattle.desk.proofs.Chains.{Entry, chain, notBelow, chain-told}
-use Rattle.desk.proofs.Books.{Framed, framed, inbox-kept, outbox-kept, record-added, history-kept, payments-are, inbox-count, outbox-count, flight-count, history-count}
+use Rattle.rules.proofs.Books.{Framed, framed, inbox-kept, outbox-kept, history-kept, payments-are, inbox-count, outbox-count, flight-count, history-count}
+use Rattle.desk.proofs.Books.{record-added}
 use Rattle.outbox.specs.After.{paymentAt, withdrawnDesk, sentDesk, settledDesk, CanWithdraw, CanSettle}
 
 -- ---- the numbers of a row
@@ -220,7 +221,7 @@ module _ (b : Book) (f : Framed b) where
   pub payment-added : (p : Payment) → b .desk .payments < 32
       → lay paymentShape (view b .outside .inflight ++ (view b .outside .waiting ++ (p ∷ []))) (b .desk .payments) (b .outbox)
       ≡ putAt (b .desk .payments * 4) (paymentShape .flat p) (b .outbox)
-  unfolding edited editedTable HasRoom putAt
+  unfolding edited editedTable RoomFor putAt
   payment-added p h =
       let e : suc (b .desk .payments) * 4 ≡ b .desk .payments * 4 + 4 = omega arith in
       rw (
@@ -255,7 +256,7 @@ module _ (b : Book) (f : Framed b) where
 
   pub payment-taken : 1 ≤ b .desk .inflight
       → lay paymentShape (drop 1 (view b .outside .inflight) ++ view b .outside .waiting) (b .desk .payments) (b .outbox) ≡ takenOut 4 0 (b .desk .payments) (b .outbox)
-  unfolding edited editedTable HasRoom takenOut
+  unfolding edited editedTable RoomFor takenOut
   payment-taken h =
       let s : 0 < b .desk .payments = omega arith in
       rw (rest-are h, le-leb (b .desk .payments * 4) (length (b .outbox)) (omega arith), lt-ltb 0 (b .desk .payments) s)

@@ -1,34 +1,41 @@
--- Any two results that a call's contract allows coincide: the answer, the desk, and every number of the three tables; and any two answers of a table of refusals.
-use Prim.Native.Nat.{ℕ}
-use mathlib.Core.Path.{_≡_, sym, _∙_}
-use mathlib.Core.List.{List}
-use Rattle.rules.specs.declared.calls.Call.{Call}
-use Rattle.rules.specs.declared.calls.WithdrawalFields.{WithdrawalFields}
-use Rattle.rules.specs.declared.rows.Nonce.{Nonce}
-use Rattle.rules.specs.declared.answers.Answer.{Answer}
-use Rattle.rules.specs.declared.answers.Answered.{Answered}
-use Rattle.rules.specs.State.{Book}
-use Rattle.rules.specs.Replies.{told, plain}
-use Rattle.rules.specs.Answer.{answer, replyNumber, outcomeOf}
-use Rattle.rules.proofs.Told.{told-once, outcome-once}
+-- Any two results that a public function's contract allows coincide (`Coincide` of `rules`).
+use mathlib.Core.Path.{refl}
+use Rattle.rules.specs.Coincide.{Coincide}
+use Rattle.rules.proofs.Told.{outcome-once}
+use Rattle.rules.proofs.Coincide.{both, reply}
+use Rattle.outbox.proofs.withdraw as withdraw
+use Rattle.outbox.proofs.withdraw_done as withdraw-done
+use Rattle.outbox.proofs.withdraw_reply as withdraw-reply
+use Rattle.outbox.proofs.send as send
+use Rattle.outbox.proofs.send_done as send-done
+use Rattle.outbox.proofs.send_reply as send-reply
+use Rattle.outbox.proofs.settle as settle
+use Rattle.outbox.proofs.settle_done as settle-done
+use Rattle.outbox.proofs.settle_reply as settle-reply
 
-pub withdraw-once : (b : Book) (x : WithdrawalFields) (r r′ : Answered) (i i′ o o′ h h′ : List ℕ) → outcomeOf r i o h ≡ answer b (Call.Withdraw x) → outcomeOf r′ i′ o′ h′ ≡ answer b (Call.Withdraw x)
-    → (r ≡ r′) × (i ≡ i′) × (o ≡ o′) × (h ≡ h′)
-withdraw-once b x = outcome-once (answer b (Call.Withdraw x))
+pub withdraw-once : Coincide withdraw.ended (λ M 𝓤. withdraw.clauses 𝓤)
+withdraw-once w x g = both w (λ p q. let o = outcome-once _ p q in (o .0, λ j. (tt, (tt, (o .2 j, (o .3 j, (tt, tt)))))))
 
-pub send-once : (b : Book) (r r′ : Answered) (i i′ o o′ h h′ : List ℕ) → outcomeOf r i o h ≡ answer b Call.Send → outcomeOf r′ i′ o′ h′ ≡ answer b Call.Send
-    → (r ≡ r′) × (i ≡ i′) × (o ≡ o′) × (h ≡ h′)
-send-once b = outcome-once (answer b Call.Send)
+pub withdraw-done-once : Coincide withdraw-done.ended (λ M 𝓤. withdraw-done.clauses 𝓤)
+withdraw-done-once = withdraw-once
 
-pub settle-once : (b : Book) (x : Nonce) (r r′ : Answered) (i i′ o o′ h h′ : List ℕ) → outcomeOf r i o h ≡ answer b (Call.Settle x) → outcomeOf r′ i′ o′ h′ ≡ answer b (Call.Settle x)
-    → (r ≡ r′) × (i ≡ i′) × (o ≡ o′) × (h ≡ h′)
-settle-once b x = outcome-once (answer b (Call.Settle x))
+pub withdraw-reply-once : Coincide withdraw-reply.ended (λ M 𝓤. withdraw-reply.clauses 𝓤)
+withdraw-reply-once w x g = reply w
 
-pub withdraw-reply-once : (b : Book) (x : WithdrawalFields) (r r′ : Answer) → told r ≡ plain (replyNumber b (Call.Withdraw x)) → told r′ ≡ plain (replyNumber b (Call.Withdraw x)) → r ≡ r′
-withdraw-reply-once b x r r′ p q = told-once r r′ (p ∙ sym q)
+pub send-once : Coincide send.ended (λ M 𝓤. send.clauses 𝓤)
+send-once w x g = both w (λ p q. let o = outcome-once _ p q in (o .0, refl))
 
-pub send-reply-once : (b : Book) (r r′ : Answer) → told r ≡ plain (replyNumber b Call.Send) → told r′ ≡ plain (replyNumber b Call.Send) → r ≡ r′
-send-reply-once b r r′ p q = told-once r r′ (p ∙ sym q)
+pub send-done-once : Coincide send-done.ended (λ M 𝓤. send-done.clauses 𝓤)
+send-done-once = send-once
 
-pub settle-reply-once : (b : Book) (x : Nonce) (r r′ : Answer) → told r ≡ plain (replyNumber b (Call.Settle x)) → told r′ ≡ plain (replyNumber b (Call.Settle x)) → r ≡ r′
-settle-reply-once b x r r′ p q = told-once r r′ (p ∙ sym q)
+pub send-reply-once : Coincide send-reply.ended (λ M 𝓤. send-reply.clauses 𝓤)
+send-reply-once w x g = reply w
+
+pub settle-once : Coincide settle.ended (λ M 𝓤. settle.clauses 𝓤)
+settle-once w x g = both w (λ p q. let o = outcome-once _ p q in (o .0, λ j. (tt, (tt, (o .2 j, (tt, (tt, tt)))))))
+
+pub settle-done-once : Coincide settle-done.ended (λ M 𝓤. settle-done.clauses 𝓤)
+settle-done-once = settle-once
+
+pub settle-reply-once : Coincide settle-reply.ended (λ M 𝓤. settle-reply.clauses 𝓤)
+settle-reply-once w x g = reply w

@@ -8,9 +8,11 @@ use runner::feed::run_some;
 use runner::start::start;
 ghost use mathlib.Core.Path.{_≡_};
 ghost use lib.ListN.{length};
+ghost use lib.Signed.{nonNeg};
 ghost use mathlib.Core.Bool.{true};
-ghost use Rattle.runner.specs.Machine.{feeds};
 ghost use Rattle.runner.specs.Feeding.{fedMachine, Ready};
+ghost use Rattle.libc.specs.Io.{Moved};
+ghost use Rattle.program.specs.Turns.{given, Answers};
 
 // A whole session on what is open as fd, in tables of document 01's sizes, all zero.
 pub fn run(fd: i32) {
@@ -38,6 +40,12 @@ struct Turn {
     whole: bool,
 }
 
+// What the system answered to a read, and the turn that it was.
+struct Read {
+    got: isize,
+    turn: Turn,
+}
+
 // Read after read, then the end of the input. A proved loop has to end, and nothing says that an input
 // does: the turns are counted down from a number that no run uses up.
 fn session(
@@ -60,7 +68,8 @@ fn session(
     };
     let mut turns = u64::MAX;
     while t.on && turns > 0 {
-        t = read_once(fd, t.feeding, inbox, outbox, history, hold, input, out);
+        let r = read_once(fd, t.feeding, inbox, outbox, history, hold, input, out);
+        t = r.turn;
         turns -= 1;
     }
     if t.whole {
@@ -69,8 +78,8 @@ fn session(
     }
 }
 
-// One read, answered and written. A read that fails is named, and there is no other turn: what was sent is
-// not known, so no `end` is written.
+// One read: every byte that it gave is fed, once and in order, unless it or a write fails. What the system
+// put into the buffer is not known; the buffer as the read left it is, and how much of it the system named.
 fn read_once(
     fd: i32,
     f: Feeding,
@@ -80,14 +89,41 @@ fn read_once(
     hold: &mut [u8],
     input: &mut [u8],
     out: &mut [u8],
+) -> Read
+    requires { ⌜ Ready f (now hold) ⌝ }
+    requires { ⌜ f .at ≡ 0 ⌝ }
+    requires { ⌜ length (now out) ≡ 65536 ⌝ }
+    ensures { λ r. ⌜ Ready (r .turn .feeding) (now (hold .exit)) ⌝ }
+    ensures { λ r. ⌜ r .turn .feeding .at ≡ 0 ⌝ }
+    ensures { λ r. ⌜ Moved (length (now (input .entry))) (r .got) ⌝ }
+    ensures { λ r. ⌜ Answers (given (r .got) (now (input .exit))) (fedMachine f (now (inbox .entry)) (now (outbox .entry)) (now (history .entry)) (now (hold .entry))) (fedMachine (r .turn .feeding) (now (inbox .exit)) (now (outbox .exit)) (now (history .exit)) (now (hold .exit))) (r .turn) ⌝ }
+    ensures { λ r. ⌜ (r .turn .whole ≡ true → nonNeg (r .got) ≡ true) ⌝ }
+{
+    let got = libc::read(fd, input);
+    let turn = answer_given(f, inbox, outbox, history, hold, got, input, out);
+    Read { got, turn }
+}
+
+// What a read gave, answered and written. A read that failed is named, and there is no other turn: what was
+// sent is not known, so no `end` is written.
+fn answer_given(
+    f: Feeding,
+    inbox: &mut [u64],
+    outbox: &mut [u64],
+    history: &mut [u64],
+    hold: &mut [u8],
+    got: isize,
+    input: &[u8],
+    out: &mut [u8],
 ) -> Turn
     requires { ⌜ Ready f (now hold) ⌝ }
     requires { ⌜ f .at ≡ 0 ⌝ }
     requires { ⌜ length (now out) ≡ 65536 ⌝ }
     ensures { λ r. ⌜ Ready (r .feeding) (now (hold .exit)) ⌝ }
     ensures { λ r. ⌜ r .feeding .at ≡ 0 ⌝ }
+    ensures { λ r. ⌜ Answers (given got (now (input .entry))) (fedMachine f (now (inbox .entry)) (now (outbox .entry)) (now (history .entry)) (now (hold .entry))) (fedMachine (r .feeding) (now (inbox .exit)) (now (outbox .exit)) (now (history .exit)) (now (hold .exit))) r ⌝ }
+    ensures { λ r. ⌜ (r .whole ≡ true → nonNeg got ≡ true) ⌝ }
 {
-    let got = libc::read(fd, input);
     if got < 0 {
         os::fail(&[b'r', b'e', b'a', b'd']);
         return Turn {
@@ -124,7 +160,7 @@ fn answer_read(
     requires { ⌜ length (now out) ≡ 65536 ⌝ }
     ensures { λ r. ⌜ Ready (r .feeding) (now (hold .exit)) ⌝ }
     ensures { λ r. ⌜ r .feeding .at ≡ 0 ⌝ }
-    ensures { λ r. ⌜ (r .whole ≡ true → fedMachine (r .feeding) (now (inbox .exit)) (now (outbox .exit)) (now (history .exit)) (now (hold .exit)) ≡ feeds (fedMachine f (now (inbox .entry)) (now (outbox .entry)) (now (history .entry)) (now (hold .entry))) (now (chunk .entry))) ⌝ }
+    ensures { λ r. ⌜ Answers (now (chunk .entry)) (fedMachine f (now (inbox .entry)) (now (outbox .entry)) (now (history .entry)) (now (hold .entry))) (fedMachine (r .feeding) (now (inbox .exit)) (now (outbox .exit)) (now (history .exit)) (now (hold .exit))) r ⌝ }
 {
     let mut g = f;
     let mut from: usize = 0;

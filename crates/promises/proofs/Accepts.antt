@@ -17,7 +17,7 @@ use Rattle.rules.specs.History.{withdrawals, historyInFrame}
 use Rattle.rules.specs.Answer.{frameTest, replyNumber}
 use Rattle.rules.specs.Facts.{Accepted, Fit}
 use Rattle.rules.proofs.Tests.{true-within, noneApplies, nothing-smallest}
-use Rattle.rules.proofs.Accepts.{fit}
+use Rattle.rules.proofs.Accepts.{by-number, fit}
 use Rattle.promises.proofs.Framed.{Framed, framed}
 use Rattle.promises.proofs.Reached.{Ready}
 
@@ -100,4 +100,4 @@ none-apply b (Call.Trace n) r k =
 
 -- a call on a ready book is accepted exactly if its facts hold
 pub accepts : (b : Book) (c : Call) → Ready b → Accepted b c ↔ Fit (view b) c
-accepts b c r = (fit b c, λ k. record { done = unfold replyNumber in nothing-smallest (frameTest b c ∷ refusals (view b) c) (none-apply b c r k) })
+accepts b c r = (fit b c, λ k. by-number b c (unfold replyNumber in nothing-smallest (frameTest b c ∷ refusals (view b) c) (none-apply b c r k)))

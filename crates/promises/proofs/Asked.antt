@@ -18,7 +18,8 @@ use Rattle.lots.proofs.TraceJoin.{records-fit}
 use Rattle.rules.specs.Answer.{answer, replyNumber, frameTest, doneAnswer, badHistory, replyWith, traceNumber, traceAnswer, provenanceNumber, provenanceAnswer}
 use Rattle.promises.specs.Demand1.{isOneOf}
 use Rattle.promises.specs.Promises.{LentTrace}
-use Rattle.promises.proofs.Replies.{smallest-own, reply-with}
+use Rattle.rules.proofs.Accepts.{reply-with}
+use Rattle.promises.proofs.Replies.{smallest-own}
 
 -- the number of a reply is the one that it was given with, so what is one of some numbers stays so
 given : (k : ℕ) (done : Reply) (ns : List ℕ) → done .number ≡ 0 → isOneOf k ns ≡ true → isOneOf (replyWith k done .number) ns ≡ true

@@ -11,7 +11,7 @@ use Rattle.rules.specs.Effects.{effect}
 use Rattle.rules.specs.Answer.{replyNumber, doneAnswer, piecesOf, bookOf, answer}
 use Rattle.rules.specs.Runs.{bookAfter, run, gather}
 use Rattle.rules.specs.Facts.{Accepted}
-use Rattle.rules.proofs.Accepts.{not-done}
+use Rattle.rules.proofs.Accepts.{by-number, not-done}
 use Rattle.promises.specs.Promises.{Unchanged}
 
 -- a refused call leaves the book as found, and tells neither values nor pieces
@@ -44,7 +44,7 @@ module _ {A B : Type 0} (f : Book → Call → List A) (g : Book → Call → Li
   step-keeps xs ys b c p = go (replyNumber b c) refl
     where
       go : (n : ℕ) → replyNumber b c ≡ n → P (xs ++ if-done n (f b c) []) (ys ++ if-done n (g b c) []) (if-done n (laid (effect c (view b)) b) b)
-      go zero e = keeps xs ys b c (record { done = e }) p
+      go zero e = keeps xs ys b c (by-number b c e) p
       go (suc n) e = rw (append-nil xs, append-nil ys) p
 
   -- what every accepted call keeps, of two logs and the book, holds after every run from where it held

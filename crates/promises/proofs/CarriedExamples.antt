@@ -9,7 +9,7 @@ use Rattle.rules.specs.State.{inboxOf}
 use Rattle.rules.specs.Cases.{deposit}
 use Rattle.rules.proofs.Compute.{compute}
 use Rattle.pages.specs.Writing.{putByte, put}
-use Rattle.runner.specs.Machine.{start, held-with, fed, written, feeds, writes, unfinished, unfinishedText, ended, closing, writesAll}
+use Rattle.runner.specs.Machine.{start, held-with, fed, written, feeds, writes, unfinished, unfinishedText, atEnd, closing, writesAll}
 use Rattle.runner.specs.Kept.{Begins, RunSome}
 use Rattle.promises.specs.Carried.{callOf, callsOf, callsIn, after, Chain}
 use Rattle.promises.specs.Demand3Examples.{deposited}
@@ -30,7 +30,7 @@ unfolding compute start held-with fed feeds
 held-here = refl
 
 pub written-here : writesAll start (firstRead ∷ secondRead ∷ lastRead ∷ []) ≡ bytes "1\t0\n2\t18\n3\t1\nend\t1\t2\n"
-unfolding compute start held-with fed written feeds writes unfinished unfinishedText ended closing writesAll
+unfolding compute start held-with fed written feeds writes unfinished unfinishedText atEnd closing writesAll
 written-here = refl
 
 -- a chain: the first read is taken whole, and of the second 18 bytes, so that one line is answered and another is held; then the page is given out

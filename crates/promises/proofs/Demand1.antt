@@ -2,11 +2,27 @@
 use Rattle.promises.specs.Promises.{Demand1}
 use Rattle.promises.proofs.Asked.{lent-trace, question, never-small}
 use Rattle.promises.proofs.Replies.{numbered, refused, line-answered}
+use Rattle.rules.proofs.Books.{nothing-changed}
+use Rattle.promises.proofs.Leaves.{leaves}
 use Rattle.promises.proofs.Lines.{answers}
 use Rattle.promises.proofs.Cut.{cut}
 use Rattle.promises.proofs.EmptyFields.{empty-fields}
-use Rattle.promises.proofs.ReadNumbers.{reading}
+use Rattle.promises.proofs.Reading.{reading}
 
 -- the whole of demand 1
 pub demand1 : Demand1
-demand1 = record { calls = numbered; refused = refused; lentTraces = lent-trace; questions = question; neverSmall = never-small; lines = line-answered; cut = cut; answers = answers; emptyFields = empty-fields; reading = reading }
+demand1 =
+    record {
+      calls = numbered;
+      refused = refused;
+      leaves = leaves;
+      nothing = nothing-changed;
+      lentTraces = lent-trace;
+      questions = question;
+      neverSmall = never-small;
+      lines = line-answered;
+      cut = cut;
+      answers = answers;
+      emptyFields = empty-fields;
+      reading = reading;
+    }

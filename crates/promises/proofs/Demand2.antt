@@ -19,10 +19,11 @@ use Rattle.promises.proofs.Reached.{Ready, ready-empty, ready-run, read
 use Rattle.promises.proofs.UpFrom.{up-length, up-first}
 use Rattle.promises.proofs.Order.{Deposited, deposits-log, Paid, payments-log}
 use Rattle.promises.proofs.Queue.{queue}
-use Rattle.rules.proofs.Accepts.{state-accepted}
+use Rattle.promises.proofs.Leaves.{leaves}
 use Rattle.promises.proofs.Accepts.{accepts}
 use Rattle.promises.proofs.ReadyBooks.{in-frame, by-history}
 use Rattle.promises.proofs.Payments.{records-run, made-count}
+use Rattle.promises.proofs.Unclaimed.{unclaimed-left}
 use Rattle.promises.proofs.Traces.{payment-traced}
 
 -- ---- the logs of a run from an empty book
@@ -93,8 +94,10 @@ demand2 b cs e =
     let r : Ready (run b cs) = ready-run b cs (ready-empty b e) in
     record {
       frame = in-frame (run b cs) r;
-      accepting = λ c. record { exactly = accepts (run b cs) c r; leaves = state-accepted (run b cs) c };
+      accepting = λ c. accepts (run b cs) c r;
+      leaves = leaves (run b cs);
       records = unfold view in records-run b cs e;
+      inbox = unfold view in unclaimed-left b cs e;
       byHistory = by-history (run b cs) r;
       sheet = λ a. sheet a b cs e;
       order = in-order b cs e;

@@ -1,6 +1,6 @@
 -- Demand 3 is not empty: for each of its statements two sessions, from two empty books, of which the premise holds, with what both show; and what they do not show, which differs. All by computation.
 use mathlib.Core.Path.{_≡_, refl, sym, _∙_}
-use mathlib.Core.Bool.{true}
+use mathlib.Core.Bool.{true, false}
 use mathlib.Core.List.{[], _∷_, map}
 use Rattle.rules.specs.Lists.{all}
 use Rattle.rules.specs.State.{Empty, view, emptyBook}
@@ -11,7 +11,7 @@ use Rattle.rules.specs.Runs.{run}
 use Rattle.rules.specs.Views.{outsideOf, seenOutside, outsideView, namesMember, seenBy, shownTo, memberView, asks, hasRoom}
 use Rattle.rules.proofs.Compute.{compute}
 use Rattle.promises.proofs.Base.{blank-empty}
-use Rattle.promises.specs.Demand3Examples.{writtenOn, onePays, twoPay, bothSeen, bothShow, anotherPays, anotherGrants, bothSeenBy, bothShowMember, asked, bothReply}
+use Rattle.promises.specs.Demand3Examples.{writtenOn, onePays, twoPay, bothSeen, bothShow, bothOutside, anotherPays, anotherGrants, bothSeenBy, bothShowMember, asked, crowded, bothReply, crowdedReply}
 
 -- both books are empty
 pub empty-blank : Empty emptyBook
@@ -32,6 +32,11 @@ outside-alike = outside-sees .0 ∙ sym (outside-sees .1)
 pub outside-shows : (outsideView emptyBook onePays ≡ bothShow) × (outsideView writtenOn twoPay ≡ bothShow)
 unfolding compute outsideView writtenOn onePays twoPay bothShow
 outside-shows = (refl, refl)
+
+-- and the outside part of both books: what was deposited and settled of each asset, the last deposit number, the next nonce, the payments in flight and waiting
+pub outside-agrees : (view (run emptyBook onePays) .outside ≡ bothOutside) × (view (run writtenOn twoPay) .outside ≡ bothOutside)
+unfolding compute writtenOn onePays twoPay bothOutside
+outside-agrees = (refl, refl)
 
 -- what the outside does not see: the balances of members 2 and 4 in asset 3
 pub outside-hides : map (λ m. balance (view (run emptyBook onePays) .balances) m 3) (2 ∷ 4 ∷ []) ∷ map (λ m. balance (view (run writtenOn twoPay) .balances) m 3) (2 ∷ 4 ∷ []) ∷ []
@@ -66,3 +71,12 @@ next-asked = (refl, refl, refl)
 pub next-replies : (map (λ c. answer (run emptyBook anotherPays) c .reply) asked ≡ map plain bothReply) × (map (λ c. answer (run writtenOn anotherGrants) c .reply) asked ≡ map plain bothReply)
 unfolding compute asked bothReply writtenOn anotherPays anotherGrants
 next-replies = (refl, refl)
+
+-- without room, whoever's payments fill the outbox: every reply but the one that says so is the same
+pub crowded-alike : (seenBy 2 emptyBook crowded ≡ bothSeenBy) × (hasRoom (view (run emptyBook crowded)) ≡ false)
+unfolding compute seenBy namesMember hasRoom crowded anotherPays bothSeenBy
+crowded-alike = (refl, refl)
+
+pub crowded-replies : map (λ c. answer (run emptyBook crowded) c .reply) asked ≡ map plain crowdedReply
+unfolding compute asked crowdedReply crowded anotherPays
+crowded-replies = refl

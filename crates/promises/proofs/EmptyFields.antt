@@ -1,15 +1,15 @@
 -- A line with an empty field is Malformed, whatever stands around it.
 use Prim.Native.Nat.{ℕ}
 use mathlib.Core.Path.{_≡_, refl}
-use mathlib.Core.Bool.{Bool, true, false, _||_, cond, or-true, false≢true}
-use mathlib.Core.List.{List, [], _∷_, _++_}
+use mathlib.Core.Bool.{Bool, true, false, _||_, cond, false≢true}
+use mathlib.Core.List.{List, [], _∷_}
 use native.Mathlib.Omega.{arith}
-use lib.Dec.{leb, eqb}
+use lib.Dec.{leb}
 use lib.ListN.{length}
 use borrow.Author.Tests.{eqb-true}
 use Rattle.promises.specs.Types.{Line, Field}
 use Rattle.rules.specs.Lists.{any, bytes, same}
-use Rattle.rules.specs.Lines.{tab, fields, fieldsFrom, number, readsAsNumber, Numbers, andRead, numbers, forms, formed, formedOf, readFields, readLine, depositForm, claimForm, transferForm, withdrawForm, sendForm, settleForm, grantForm, signForm, traceForm}
+use Rattle.rules.specs.Lines.{fields, number, readsAsNumber, Numbers, andRead, numbers, forms, formed, formedOf, readFields, readLine, depositForm, claimForm, transferForm, withdrawForm, sendForm, settleForm, grantForm, signForm, traceForm}
 use Rattle.rules.specs.Replies.{numberOf, told}
 use Rattle.rules.specs.Transcript.{answerLine}
 use Rattle.promises.specs.Demand1.{isEmpty}
@@ -63,30 +63,6 @@ some-field s h = go (leb (length s) 120)
     go true = fields-empty (fields s) h
     go false = refl
 
--- what stands in front of a tab leaves the fields after it as they are, so an empty one among them stays
-tab-before : (after : List ℕ) → any isEmpty (fields after) ≡ true → (before s : List ℕ) → any isEmpty (fieldsFrom before (s ++ (tab ∷ after))) ≡ true
-unfolding any fields fieldsFrom
-tab-before after h before [] = rw (h, or-true)
-tab-before after h before (b ∷ s) = go (eqb b tab) (tab-before after h [] s) (tab-before after h (before ++ (b ∷ [])) s)
-  where
-    go : (t : Bool) → any isEmpty (fieldsFrom [] (s ++ (tab ∷ after))) ≡ true → any isEmpty (fieldsFrom (before ++ (b ∷ [])) (s ++ (tab ∷ after))) ≡ true
-        → any isEmpty (cond t (before ∷ fieldsFrom [] (s ++ (tab ∷ after))) (fieldsFrom (before ++ (b ∷ [])) (s ++ (tab ∷ after)))) ≡ true
-    go true p q = rw (p, or-true)
-    go false p q = q
-
--- a tab first: the first field is empty
-tab-first : (after : List ℕ) → any isEmpty (fields (tab ∷ after)) ≡ true
-unfolding any fields fieldsFrom
-tab-first after = refl
-
--- the four ways to say it, and what such a line gets
+-- all that is promised of empty fields
 pub empty-fields : EmptyFields
-unfolding fields fieldsFrom any
-empty-fields =
-    record {
-      someField = some-field;
-      twoTabs = λ before after. some-field (before ++ (tab ∷ tab ∷ after)) (tab-before (tab ∷ after) (tab-first after) [] before);
-      tabFirst = λ after. some-field (tab ∷ after) (tab-first after);
-      tabLast = λ before. some-field (before ++ (tab ∷ [])) (tab-before [] refl [] before);
-      malformed = λ b. unfold answerLine told numberOf in refl;
-    }
+empty-fields = record { someField = some-field; malformed = λ b. unfold answerLine told numberOf in refl }

@@ -1,11 +1,11 @@
 -- Demands 1 and 2 are not empty: for each promise something that happens, with its numbers. All by computation.
 use mathlib.Core.Path.{_≡_, refl}
-use mathlib.Core.Bool.{true}
+use mathlib.Core.Bool.{true, not}
 use mathlib.Core.List.{[], _∷_, _++_, map}
 use lib.ListN.{getD, take, drop, replicate}
 use Rattle.promises.specs.Types.{Line}
-use Rattle.rules.specs.Lists.{any, bytes}
-use Rattle.rules.specs.State.{emptyBook, historyOf}
+use Rattle.rules.specs.Lists.{any, those, bytes}
+use Rattle.rules.specs.State.{emptyBook, inboxOf, historyOf}
 use Rattle.rules.specs.Replies.{plain}
 use Rattle.rules.specs.Effects.{balance, holder, total}
 use Rattle.rules.specs.Frame.{inFrame}
@@ -14,15 +14,15 @@ use Rattle.rules.specs.Lots.{noLot}
 use Rattle.rules.specs.Answer.{answer, traceAnswer, provenanceAnswer}
 use Rattle.rules.specs.Runs.{run, deposits, sends, settlements, sentAfter}
 use Rattle.rules.specs.Sheet.{acceptedDeposits, settledSum, unclaimedSum, balancesSum, outboxSum, chainTotal}
-use Rattle.rules.specs.Lines.{fields, Numbers, numbers, readLine}
+use Rattle.rules.specs.Lines.{fields, Numbers, numbers, readLine, formOf, numbersOf, writeLine}
 use Rattle.rules.specs.Transcript.{linesFrom, answerLine, transcript}
 use Rattle.rules.specs.Cases.{deposit, transfer, withdraw, trace, with300}
 use Rattle.rules.proofs.Compute.{compute}
 use Rattle.lots.specs.Traces.{worth, coins}
 use Rattle.promises.specs.Demand1.{applying, isEmpty}
-use Rattle.promises.specs.Demand2.{heldAs, heldAfter, holderBy, nonceOf, isSend, sendCalls, waitingIn, claiming, claims, made, traced, coinsAs, coinsAfter, coinsIn}
-use Rattle.promises.specs.Demand3Examples.{payment}
-use Rattle.promises.specs.Examples.{oneOfEach, written, threeLines, absent, nought, threePayments, worked, workedRecords, threeSends, piece}
+use Rattle.promises.specs.Demand2.{heldAs, heldAfter, holderBy, nonceOf, isSend, sendCalls, waitingIn, claiming, claims, isClaimed, made, traced, coinsAs, coinsAfter, coinsIn}
+use Rattle.promises.specs.Demand3Examples.{deposited, payment}
+use Rattle.promises.specs.Examples.{oneOfEach, written, threeLines, absent, nought, transferLine, nearly, threePayments, worked, secondClaimed, workedRecords, threeSends, piece}
 
 -- ======== demand 1
 -- a reply of each kind; 1 is a line's, and 20 is given where the lent tables are short (below)
@@ -81,6 +81,15 @@ pub fields-read : numbers (drop 1 (fields (bytes nought))) ≡ Numbers.allRead (
 unfolding compute
 fields-read = refl
 
+-- a line is read that is a call written out, and none that is nearly so
+pub written-here : (writeLine (transfer 2 4 3 200) ≡ bytes transferLine) × (readLine (bytes transferLine) ≡ Line.Reads (transfer 2 4 3 200))
+unfolding compute formOf numbersOf writeLine
+written-here = (refl, refl)
+
+pub nearly-refused : map (λ s. readLine (bytes s)) nearly ≡ map (λ s. Line.Malformed) nearly
+unfolding compute
+nearly-refused = refl
+
 -- ======== demand 2
 -- the worked book is in frame, and so is its history
 pub framed-here : (inFrame (run emptyBook worked) ≡ true) × (historyInFrame (historyOf (run emptyBook worked)) ≡ true)
@@ -101,6 +110,13 @@ leaves-here = (refl, refl)
 pub records-here : historyOf (run emptyBook worked) ≡ workedRecords
 unfolding compute worked threePayments workedRecords
 records-here = refl
+
+-- the inbox is the deposits that were not claimed, in order
+pub inbox-here : (inboxOf (run emptyBook secondClaimed) ≡ deposited 1 3 500 2 ∷ deposited 3 3 300 4 ∷ [])
+    × (deposits emptyBook secondClaimed ≡ deposited 1 3 500 2 ∷ deposited 2 3 300 4 ∷ deposited 3 3 300 4 ∷ [])
+    × (those (λ d. not (isClaimed (claims emptyBook secondClaimed) d)) (deposits emptyBook secondClaimed) ≡ deposited 1 3 500 2 ∷ deposited 3 3 300 4 ∷ [])
+unfolding compute secondClaimed claiming
+inbox-here = (refl, refl, refl)
 
 -- balances = provenance: member 2 has 500 - 200 - 100, member 4 has 200 + 300 - 350 - 50, member 7 nothing; the question answers so
 pub balances-here : map (λ m. balance (run emptyBook worked .desk .balances) m 3) (2 ∷ 4 ∷ 7 ∷ []) ≡ 200 ∷ 100 ∷ 0 ∷ []

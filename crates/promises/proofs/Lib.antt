@@ -1,13 +1,16 @@
--- The proofs of the promises: demand 1, demand 2, demand 3, what carries them to the code, and all of them; then the examples.
+-- The proofs of the promises: demand 1, demand 2, demand 3, what carries them to the code, and all of them; then what follows from them, and the examples.
 pub mod Asked
 pub mod Base
 pub mod Smallest
 pub mod Replies
+pub mod Leaves
+pub mod NoneFull
 pub mod LineFeeds
 pub mod Lines
 pub mod Cut
 pub mod EmptyFields
-pub mod ReadNumbers
+pub mod Spelled
+pub mod Reading
 pub mod Demand1
 pub mod Lists
 pub mod Cells
@@ -28,6 +31,7 @@ pub mod UpFrom
 pub mod Order
 pub mod Queue
 pub mod Sources
+pub mod Unclaimed
 pub mod Payments
 pub mod OldestFirst
 pub mod Traces
@@ -45,6 +49,7 @@ pub mod CarriedBytes
 pub mod CarriedReads
 pub mod TheCode
 pub mod Promises
+pub mod Corollaries
 pub mod Demand3Examples
 pub mod Examples
 pub mod CarriedExamples

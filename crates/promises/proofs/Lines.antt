@@ -91,7 +91,6 @@ answers input =
       text = transcript-text input;
       oneEach = l;
       tally = counts-sum (answered input) ∙ l;
-      upTo = unfold inputLines in refl;
       oneLine = one-line;
       lines = rw (transcript-text input, feeds-append (replyTexts 1 (answered input)) (endText tally), reply-lines 1 (answered input), end-line tally, l);
     }

@@ -10,7 +10,7 @@ use Rattle.rules.specs.Effects.{effect, deposited, withdrawn, sent, settledOne,
 use Rattle.rules.specs.Runs.{run, gather, depositing, sending, settling, settlements}
 use Rattle.rules.specs.Sheet.{upFrom, depositedIn, paidIn, acceptedDeposits, settledSum, chainTotal}
 use Rattle.rules.specs.Views.{Seen, outsideOf, seenOutside, outsideView}
-use Rattle.promises.specs.Promises.{OutsideTold}
+use Rattle.promises.specs.Promises.{OutsideTold, OutsideAgreed}
 use Rattle.promises.proofs.Base.{view-empty}
 use Rattle.promises.proofs.Demand3Unwinding.{shownBy, unwound}
 
@@ -120,3 +120,6 @@ module _ (b b′ : Book) (e : Empty b) (e′ : Empty b′) (cs cs′ : List Call
 -- demand 3, the outside
 pub outside-told : OutsideTold
 outside-told = same-view
+
+pub outside-agreed : OutsideAgreed
+outside-agreed b b′ e e′ cs cs′ alike = same-outside b b′ e e′ cs cs′ alike depositing depositSeen brings .0

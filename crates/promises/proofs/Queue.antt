@@ -17,7 +17,7 @@ use Rattle.rules.specs.Runs.{bookAfter, run, gather, sending, sends, sentAfter}
 use Rattle.rules.specs.Facts.{Accepted, SendFit}
 use Rattle.promises.specs.Demand2.{queueing, queued, isSend, sendCalls, waitingIn, noPayment}
 use Rattle.promises.specs.Promises.{Queue}
-use Rattle.rules.proofs.Accepts.{fit}
+use Rattle.rules.proofs.Accepts.{accepted-number, fit}
 use Rattle.promises.proofs.Reached.{Ready, ready-run, ready-keeps}
 use Rattle.promises.proofs.Accepts.{accepts}
 use Rattle.promises.proofs.Order.{moved}
@@ -29,7 +29,7 @@ send-accepted b r h = accepts b Call.Send r .1 (record { some = h })
 -- and it answers the oldest
 send-answers : (b : Book) → Ready b → 1 ≤ length (waitingIn b) → answer b Call.Send .reply ≡ told (Answer.Sent (oldest (waitingIn b)))
 unfolding answer doneAnswer
-send-answers b r h = rw (send-accepted b r h .done)
+send-answers b r h = rw (accepted-number b Call.Send (send-accepted b r h))
 
 -- ---- the order
 -- what was sent and then waits is what waited and then was queued: kept by every accepted call
@@ -70,7 +70,7 @@ sent-count b (Call.Deposit d) r h = nothing (replyNumber b (Call.Deposit d))
 sent-count b (Call.Claim c) r h = nothing (replyNumber b (Call.Claim c))
 sent-count b (Call.Transfer t) r h = nothing (replyNumber b (Call.Transfer t))
 sent-count b (Call.Withdraw w) r h = nothing (replyNumber b (Call.Withdraw w))
-sent-count b Call.Send r h = rw (send-accepted b r h .done)
+sent-count b Call.Send r h = rw (accepted-number b Call.Send (send-accepted b r h))
 sent-count b (Call.Settle n) r h = nothing (replyNumber b (Call.Settle n))
 sent-count b (Call.Grant g) r h = nothing (replyNumber b (Call.Grant g))
 sent-count b (Call.Sign g) r h = nothing (replyNumber b (Call.Sign g))

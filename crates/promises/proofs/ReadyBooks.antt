@@ -21,7 +21,8 @@ use Rattle.rules.specs.Answer.{badHistory, frameTest, replyNumber, traceNumber,
 use Rattle.rules.specs.Facts.{Within}
 use Rattle.rules.proofs.Tests.{true-within, not-holds, noneApplies, nothing-smallest}
 use Rattle.promises.specs.Promises.{InFrame, ByHistory}
-use Rattle.promises.proofs.Replies.{smallest-own, one-passes, reply-with, reply-number}
+use Rattle.promises.proofs.Replies.{smallest-own, one-passes}
+use Rattle.rules.proofs.Accepts.{reply-with, reply-number}
 use Rattle.promises.proofs.History.{provenanced}
 use Rattle.promises.proofs.Reached.{Ready}
 

@@ -1,5 +1,5 @@
 -- Reply numbers: every one is its call's own, and a refused call changes nothing.
-use Prim.Native.Nat.{ℕ, zero, suc, min}
+use Prim.Native.Nat.{ℕ, zero, suc, min, _≤_}
 use mathlib.Core.Path.{_≡_, refl}
 use mathlib.Core.Logic.{_≢_}
 use mathlib.Core.Bool.{Bool, true, false, _||_, cond, or-true, false≢true}
@@ -9,14 +9,15 @@ use lib.Dec.{leb, eqb}
 use borrow.Author.Tests.{leb-true, eq-eqb, eqb-true, leb-false}
 use Rattle.promises.specs.Types.{Call, Line}
 use Rattle.rules.specs.Lists.{all, any}
-use Rattle.rules.specs.State.{State, Book, view}
-use Rattle.rules.specs.Replies.{Reply, numberOf, told, smaller, smallest}
+use Rattle.rules.specs.State.{Book, view}
+use Rattle.rules.specs.Replies.{numberOf, told, smaller, smallest}
 use Rattle.rules.specs.Refusals.{refusals, traceRefusals}
-use Rattle.rules.specs.Answer.{frameTest, replyNumber, replyWith, doneAnswer, answer}
+use Rattle.rules.specs.Answer.{frameTest, replyNumber, answer}
 use Rattle.rules.specs.Transcript.{answerLine}
 use Rattle.promises.specs.Demand1.{possible, isOneOf}
 use Rattle.promises.specs.Promises.{Numbered, Unchanged, LineAnswered}
 use Rattle.rules.proofs.Tests.{both}
+use Rattle.rules.proofs.Accepts.{reply-number}
 use Rattle.promises.proofs.Base.{refused-leaves}
 use Rattle.promises.proofs.Smallest.{number-applies, number-smallest}
 
@@ -70,7 +71,7 @@ own-numbers b (Call.Grant g) = refl
 own-numbers b (Call.Sign g) = refl
 own-numbers b (Call.Trace n) = refl
 
--- and none is above 21
+-- of which none is above 21
 low-numbers : (c : Call) → all (λ n. leb n 21) (possible c) ≡ true
 unfolding all possible
 low-numbers (Call.Deposit d) = refl
@@ -83,42 +84,21 @@ low-numbers (Call.Grant g) = refl
 low-numbers (Call.Sign g) = refl
 low-numbers (Call.Trace n) = refl
 
--- what a done call tells has the number 0
-done-told : (s : State) (c : Call) → told (doneAnswer s c) .number ≡ 0
-unfolding told doneAnswer
-done-told s (Call.Deposit d) = refl
-done-told s (Call.Claim c) = refl
-done-told s (Call.Transfer t) = refl
-done-told s (Call.Withdraw w) = refl
-done-told s Call.Send = refl
-done-told s (Call.Settle n) = refl
-done-told s (Call.Grant g) = refl
-done-told s (Call.Sign g) = refl
-done-told s (Call.Trace n) = refl
-
--- a reply with a number has that number
-pub reply-with : (n : ℕ) (r : Reply) → r .number ≡ 0 → replyWith n r .number ≡ n
-reply-with zero r h = h
-reply-with (suc n) r h = refl
-
--- the number in the reply is the number that the rules give
-pub reply-number : (b : Book) (c : Call) → answer b c .reply .number ≡ replyNumber b c
-unfolding answer
-reply-number b c = reply-with (replyNumber b c) (told (doneAnswer (view b) c)) (done-told (view b) c)
-
 -- so every reply number is one of its call's own
 pub numbered : (b : Book) (c : Call) → Numbered b c
 numbered b c =
-    let own : isOneOf (answer b c .reply .number) (possible c) ≡ true = rw (reply-number b c, ← own-numbers b c) (number-own b c) in
     record {
-      oneOfItsOwn = own;
-      atMost = leb-true (answer b c .reply .number) 21 (one-passes (λ n. leb n 21) (answer b c .reply .number) (possible c) own (low-numbers c));
+      oneOfItsOwn = rw (reply-number b c, ← own-numbers b c) (number-own b c);
       applies = rw (reply-number b c) (number-applies b c);
       smallest = rw (reply-number b c) (number-smallest b c);
     }
   where
     number-own : (b : Book) (c : Call) → isOneOf (replyNumber b c) (0 ∷ map (λ (r : ℕ × Bool). r .0) (frameTest b c ∷ refusals (view b) c)) ≡ true
     number-own b c = unfold replyNumber in smallest-own (frameTest b c ∷ refusals (view b) c)
+
+-- and none is above 21
+number-low : (b : Book) (c : Call) → answer b c .reply .number ≤ 21
+number-low b c = leb-true (answer b c .reply .number) 21 (one-passes (λ n. leb n 21) (answer b c .reply .number) (possible c) (numbered b c .oneOfItsOwn) (low-numbers c))
 
 -- a refused call changes nothing, and tells nothing but its number
 pub refused : (b : Book) (c : Call) → answer b c .reply .number ≢ 0 → Unchanged b (answer b c)
@@ -127,5 +107,5 @@ refused b c h = refused-leaves b c (rw (reply-number b c) at h)
 -- a line that is no call is answered 1, and changes nothing either
 pub line-answered : (b : Book) (l : Line) → LineAnswered b l
 unfolding answerLine told numberOf
-line-answered b (Line.Reads c) = record { atMost = numbered b c .atMost; refused = refused b c }
+line-answered b (Line.Reads c) = record { atMost = number-low b c; refused = refused b c }
 line-answered b Line.Malformed = record { atMost = omega arith; refused = λ h. record { book = refl; values = refl; pieces = refl } }

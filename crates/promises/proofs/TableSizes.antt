@@ -8,9 +8,10 @@ use native.Mathlib.Omega.{arith}
 use lib.ListN.{length, drop, replicate, length-append, length-drop, length-replicate}
 use borrow.Author.Tests.{leb-true}
 use Rattle.rules.specs.Lists.{joined}
-use Rattle.rules.specs.Tables.{Shape, Sound, lay, depositShape, paymentShape, recordShape}
+use Rattle.rules.specs.Tables.{Shape, lay, depositShape, paymentShape, recordShape}
 use Rattle.rules.specs.State.{State, Book, laid, payments}
 use Rattle.rules.specs.Frame.{inFrame}
+use Rattle.rules.proofs.Laying.{Sound}
 use Rattle.rules.proofs.Shapes.{depositSound, paymentSound, recordSound}
 use Rattle.rules.proofs.Tests.{ands-at}
 use Rattle.promises.proofs.Framed.{Framed, Sized, sized}

@@ -1,6 +1,6 @@
 -- Traces: every payment has one, which sums to its amount, of the payer and the asset, from deposits that were accepted and claimed.
 use Prim.Native.Nat.{ℕ, _<_}
-use mathlib.Core.Path.{_≡_, sym, ap, _∙_}
+use mathlib.Core.Path.{_≡_, ap, _∙_}
 use mathlib.Core.Bool.{true}
 use mathlib.Core.List.{List, [], _∷_}
 use lib.ListN.{length}
@@ -14,10 +14,11 @@ use Rattle.rules.specs.Answer.{piecesOf, doneAnswer, answer}
 use Rattle.rules.specs.Runs.{run, deposits}
 use Rattle.rules.proofs.Digits.{all-imply}
 use Rattle.rules.specs.Facts.{Accepted}
+use Rattle.rules.proofs.Accepts.{accepted-number}
 use Rattle.lots.specs.Traces.{coins, isNamed, claimsDeposit, nthWithdrawal, beforePayment, afterPayment, Traced}
 use Rattle.lots.proofs.ListLaws.{any-append}
 use Rattle.lots.proofs.TraceLaws.{payment-at, trace-sound}
-use Rattle.lots.proofs.TraceJoin.{enough, trace-reply, trace-pieces}
+use Rattle.lots.proofs.TraceJoin.{trace-lent}
 use Rattle.promises.specs.Demand2.{claims, claimsLot, traced}
 use Rattle.promises.specs.Promises.{PaymentTraced}
 use Rattle.promises.proofs.Reached.{Ready, ready-empty, ready-run}
@@ -40,7 +41,7 @@ trace-accepted b n r i = accepts b (Call.Trace n) r .1 (record { replays = r .go
 trace-done : (b : Book) (n : Nonce) → Accepted b (Call.Trace n)
     → (answer b (Call.Trace n) .pieces ≡ pieces (view b .history) n) × (answer b (Call.Trace n) .reply ≡ record { number = 0; values = length (answer b (Call.Trace n) .pieces) ∷ [] })
 unfolding answer doneAnswer piecesOf told
-trace-done b n a = (rw (a .done), rw (a .done))
+trace-done b n a = (rw (accepted-number b (Call.Trace n) a), rw (accepted-number b (Call.Trace n) a))
 
 -- every payment has its trace
 pub payment-traced : (b : Book) (cs : List Call) → Empty b → (n : Nonce) → n .0 < withdrawals (view (run b cs) .history) → PaymentTraced b cs n
@@ -58,9 +59,6 @@ payment-traced b cs e n i =
       positive = t .positive;
       sourced =
           all-imply (isNamed (beforePayment (n .0) h)) (λ l. any (claimsLot (deposits b cs) l) (claims b cs)) (λ l c. claimed-lot b cs e l (named-still (n .0) h i l c)) (traced b cs n) (t .named);
-      lent = λ work out w o.
-          let rows = enough (run b cs) (length work) w in
-          let places = enough (run b cs) (length out) o in
-          (sym (trace-reply (run b cs) work out n rows places), trace-pieces (run b cs) work out n rows places);
+      lent = λ work out w o. trace-lent (run b cs) work out n (λ h. w) (λ h. o) (trace-accepted (run b cs) n r i);
       oldestFirst = ap coins p ∙ oldest-first h n (r .good .replayed .passes) i;
     }

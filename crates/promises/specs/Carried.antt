@@ -3,14 +3,12 @@ use Prim.Native.Nat.{ℕ}
 use mathlib.Core.Path.{_≡_}
 use mathlib.Core.List.{List, [], _∷_, _++_}
 use lib.ListN.{length, take}
-use Rattle.promises.specs.Types.{Nonce, Payment, Call, Line}
+use Rattle.promises.specs.Types.{Nonce, Lot, Call, Line, Answer, Answered}
 use Rattle.rules.specs.Lists.{those, joined}
-use Rattle.rules.specs.State.{Book, view}
+use Rattle.rules.specs.State.{Book}
 use Rattle.rules.specs.Transcript.{InputLine, inputLines, readInput, transcript}
-use Rattle.rules.specs.Answer.{answer, bookOf}
-use Rattle.pages.specs.Writing.{Page}
-use Rattle.steps.specs.declared.step.Stepped.{Stepped}
-use Rattle.steps.specs.Step.{repliedOf, replied}
+use Rattle.rules.specs.Answer.{answer, bookOf, outcomeOf, traceAnswer}
+use Rattle.history.specs.Tracing.{traceOutcomeOf}
 use Rattle.runner.specs.Machine.{Machine, start, feeds}
 use Rattle.runner.specs.Kept.{Kept, onPage, Begins, RunSome}
 
@@ -41,10 +39,6 @@ after input = feeds start input
 abbrev pub Beginning : List ℕ → List ℕ → Type 0
 Beginning input text = (more : List ℕ) → take (length text) (transcript (input ++ more)) ≡ text
 
--- what a book shows the outside by itself: the payments in flight, those waiting, and the next nonce
-abbrev pub outboxShown : Book → List Payment × List Payment × Nonce
-outboxShown b = (view b .outside .inflight, view b .outside .waiting, view b .outside .next)
-
 -- ---- the book runner as code, by its contracts (crate runner, specs/Kept)
 -- the page is given out, and the same page or another is written from its beginning
 abbrev pub turned : Kept → List ℕ → Kept
@@ -64,9 +58,12 @@ pub data Chain : List ℕ → List ℕ → Kept → Type 0 where
   reads : {read given : List ℕ} {before left : Kept} (chunk : List ℕ) (next : ℕ) → Chain read given before → RunSome before chunk next left → Chain (read ++ take next chunk) given left
   gives : {read given : List ℕ} {k : Kept} (out : List ℕ) → Chain read given k → Chain read (given ++ onPage k) (turned k out)
 
--- calls one after the other, from some book on, each with the equation of the contract of `step` (crate steps, specs/Step; a call that is refused has it too, with the book as it was), whatever line number and page it is given
+-- calls one after the other, from some book on, as the library does them: one of the eight with the equation of its contract (crates inbox, ledger, outbox), a trace with that of its own (crate history), whatever two tables it is lent. None of these contracts asks for anything, so the call may be refused
 pub data Steps : Book → List Call → Book → Type 0 where
   none : {b : Book} → Steps b [] b
-  step : {b met : Book} {cs : List Call} (c : Call) (line : ℕ) (text : Page) (r : Stepped) (inbox outbox history out : List ℕ)
-      → Steps b cs met → repliedOf r inbox outbox history out ≡ replied line text (answer met c)
+  call : {b met : Book} {cs : List Call} (c : Call) (r : Answered) (inbox outbox history : List ℕ)
+      → Steps b cs met → outcomeOf r inbox outbox history ≡ answer met c
       → Steps b (cs ++ (c ∷ [])) (bookOf (r .desk) inbox outbox history)
+  trace : {b met : Book} {cs : List Call} (n : Nonce) (work pieces workLeft piecesLeft : List Lot) (a : Answer)
+      → Steps b cs met → traceOutcomeOf a workLeft piecesLeft ≡ traceAnswer met work pieces n
+      → Steps b (cs ++ (Call.Trace n ∷ [])) met

@@ -91,6 +91,10 @@ claiming b (Call.Trace n) = []
 abbrev pub claims : Book → List Call → List ClaimFields
 claims b cs = gather claiming b cs
 
+-- the deposit was taken by one of these claims: the claim has exactly its four fields
+abbrev pub isClaimed : List ClaimFields → Deposit → Bool
+isClaimed ks d = any (λ c. matches c d) ks
+
 -- a claim of the lot's deposit number, in the lot's asset, that met one of these deposits with exactly its four fields
 abbrev pub claimsLot : List Deposit → Lot → ClaimFields → Bool
 claimsLot ds l c = eqb (c .asset) (l .asset) && (eqb (c .number .0) (l .number .0) && any (matches c) ds)

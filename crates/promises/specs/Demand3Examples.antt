@@ -1,11 +1,12 @@
 -- Demand 3 is not empty: sessions that differ and look the same, to the outside or to member 2, with something to see. What they show is computed in proofs/Demand3Examples.
 use Prim.Native.Nat.{ℕ, _*_}
-use mathlib.Core.List.{List, [], _∷_}
+use mathlib.Core.List.{List, [], _∷_, _++_, map}
 use lib.ListN.{replicate}
 use Rattle.promises.specs.Types.{Deposit, Payment, Record, Call}
 use Rattle.rules.specs.Limits.{inboxRows, outboxRows, historyRows}
 use Rattle.rules.specs.Tables.{depositShape, paymentShape, recordShape}
-use Rattle.rules.specs.State.{Book, deskOf, emptyState}
+use Rattle.rules.specs.State.{Book, Outside, deskOf, emptyState}
+use Rattle.rules.specs.Sheet.{upFrom}
 use Rattle.rules.specs.Cases.{deposit, claim, transfer, withdraw, settle, grant, sign}
 use Rattle.rules.specs.Views.{Seen, OutsideView, MemberView}
 
@@ -86,6 +87,17 @@ bothShow =
       chainTotals = 0 ∷ 0 ∷ 150 ∷ 0 ∷ 0 ∷ 0 ∷ 0 ∷ 0 ∷ [];
     }
 
+unfoldable pub bothOutside : Outside
+bothOutside =
+    record {
+      lifetime = 0 ∷ 0 ∷ 500 ∷ 0 ∷ 0 ∷ 0 ∷ 0 ∷ 0 ∷ [];
+      settled = 0 ∷ 0 ∷ 350 ∷ 0 ∷ 0 ∷ 0 ∷ 0 ∷ 0 ∷ [];
+      last = record { 0 = 1 };
+      next = record { 0 = 3 };
+      inflight = payment 3 50 78 1 ∷ [];
+      waiting = payment 3 20 79 2 ∷ [];
+    }
+
 -- ---- member 2
 -- member 4 claims a deposit, and pays
 unfoldable pub anotherPays : List Call
@@ -144,6 +156,14 @@ asked =
     ∷ sign 2 6
     ∷ []
 
+-- the first session again, and then member 4 fills the outbox: there is no room, and to member 2 all of it is the same
+unfoldable pub crowded : List Call
+crowded = anotherPays ++ map (λ p. withdraw 4 3 1 p) (upFrom 1 31)
+
 -- the numbers that both give, each alone
 unfoldable pub bothReply : List ℕ
 bothReply = 0 ∷ 13 ∷ 0 ∷ 14 ∷ 0 ∷ 14 ∷ 0 ∷ 15 ∷ 0 ∷ 15 ∷ []
+
+-- and those that the crowded book gives: one withdrawal gets 16, and every other call what it got
+unfoldable pub crowdedReply : List ℕ
+crowdedReply = 0 ∷ 13 ∷ 0 ∷ 14 ∷ 16 ∷ 14 ∷ 0 ∷ 15 ∷ 0 ∷ 15 ∷ []

@@ -37,32 +37,32 @@ counting unclaimed records =
     }
 
 -- a call on a book that calls lead to, or on any book
-abbrev pub after : List Call → Call → Book × Call
-after cs c = (run emptyBook cs, c)
+abbrev pub callAfter : List Call → Call → Book × Call
+callAfter cs c = (run emptyBook cs, c)
 
 -- for each number that a call can get, in order, a call that gets it; BadBook where 65 deposits are counted, InboxFull after 64, OutboxFull after 32 payments, HistoryFull where 1,024 records are counted
 unfoldable pub oneOfEach : List (Book × Call)
 oneOfEach =
-    after [] (deposit 1 3 500 2)
+    callAfter [] (deposit 1 3 500 2)
     ∷ (counting 65 0, deposit 1 3 500 2)
-    ∷ after [] (deposit 1 3 500 17)
-    ∷ after [] (transfer 2 4 9 5)
-    ∷ after [] (sign 1 9)
-    ∷ after [] (withdraw 2 3 0 77)
-    ∷ after with300 (withdraw 2 3 5 0)
-    ∷ after [] (grant 1 1 5)
-    ∷ after with300 (deposit 1 3 500 2)
-    ∷ after with300 (deposit 3 3 500 2)
-    ∷ after with300 (deposit 2 3 ceiling 2)
-    ∷ after (map (λ n. deposit n 3 1 2) (upFrom 1 64)) (deposit 65 3 1 2)
-    ∷ after [] (claim 2 1 3 500)
-    ∷ after with300 (withdraw 2 3 301 77)
-    ∷ after [] (sign 2 5)
-    ∷ after (with300 ++ map (λ p. withdraw 2 3 1 p) (upFrom 1 32)) (withdraw 2 3 1 33)
+    ∷ callAfter [] (deposit 1 3 500 17)
+    ∷ callAfter [] (transfer 2 4 9 5)
+    ∷ callAfter [] (sign 1 9)
+    ∷ callAfter [] (withdraw 2 3 0 77)
+    ∷ callAfter with300 (withdraw 2 3 5 0)
+    ∷ callAfter [] (grant 1 1 5)
+    ∷ callAfter with300 (deposit 1 3 500 2)
+    ∷ callAfter with300 (deposit 3 3 500 2)
+    ∷ callAfter with300 (deposit 2 3 ceiling 2)
+    ∷ callAfter (map (λ n. deposit n 3 1 2) (upFrom 1 64)) (deposit 65 3 1 2)
+    ∷ callAfter [] (claim 2 1 3 500)
+    ∷ callAfter with300 (withdraw 2 3 301 77)
+    ∷ callAfter [] (sign 2 5)
+    ∷ callAfter (with300 ++ map (λ p. withdraw 2 3 1 p) (upFrom 1 32)) (withdraw 2 3 1 33)
     ∷ (counting 0 1024, grant 1 2 5)
-    ∷ after [] Call.Send
-    ∷ after [] (settle 0)
-    ∷ after with300 (trace 0)
+    ∷ callAfter [] Call.Send
+    ∷ callAfter [] (settle 0)
+    ∷ callAfter with300 (trace 0)
     ∷ []
 
 -- three lines, of which the last is unfinished
@@ -82,6 +82,20 @@ absent = "deposit\t1\t3\t\t2" ∷ "deposit\t1\t3\t500\t" ∷ "deposit\t1\t3\t500
 
 abbrev pub nought : String
 nought = "deposit\t1\t3\t500\t0"
+
+-- a transfer as it is written; and nearly so, each in one way: another word, a sign, a leading zero, a number too high, two fields in one, a blank at the end
+abbrev pub transferLine : String
+transferLine = "transfer\t2\t4\t3\t200"
+
+abbrev pub nearly : List String
+nearly =
+    "pay\t2\t4\t3\t200"
+    ∷ "transfer\t2\t4\t3\t+200"
+    ∷ "transfer\t2\t4\t3\t0200"
+    ∷ "transfer\t2\t4\t3\t18446744073709551616"
+    ∷ "transfer\t2\t4\t3 200"
+    ∷ "transfer\t2\t4\t3\t200 "
+    ∷ []
 
 -- ======== demand 2
 -- two members claim, one pays the other, both pay out, a domain is granted twice, and one deposit stays unclaimed; one call is refused
@@ -104,6 +118,10 @@ threePayments =
 -- then one payment is sent and settled, and one is in flight; one settlement is refused
 unfoldable pub worked : List Call
 worked = threePayments ++ (Call.Send ∷ settle 1 ∷ settle 0 ∷ Call.Send ∷ [])
+
+-- three deposits, of which the second is claimed, and claimed again in vain: the third differs from it in its number alone
+unfoldable pub secondClaimed : List Call
+secondClaimed = deposit 1 3 500 2 ∷ deposit 2 3 300 4 ∷ claim 4 2 3 300 ∷ deposit 3 3 300 4 ∷ claim 4 2 3 300 ∷ []
 
 -- the records that these leave
 unfoldable pub workedRecords : List Record

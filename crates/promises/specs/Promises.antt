@@ -2,41 +2,41 @@
 use Prim.Native.Nat.{ℕ, _+_, _≤_, _<_}
 use mathlib.Core.Path.{_≡_}
 use mathlib.Core.Logic.{_≢_, _↔_}
-use mathlib.Core.Bool.{true, false, _&&_, _||_}
+use mathlib.Core.Bool.{true, false, not, _&&_, _||_}
 use mathlib.Core.List.{List, [], _∷_, _++_, map}
 use lib.Dec.{leb, eqb}
-use lib.ListN.{length, getD, take, drop}
+use lib.ListN.{length, getD, take, drop, replicate}
 use Rattle.promises.specs.Types.{Nonce, Lot, Call, Line, Answer}
 use Rattle.rules.specs.Facts.{Accepted, Within, Fit}
-use Rattle.rules.specs.Limits.{memberCount, assetCount, domainCount, historyRows, highestField, mostLines}
-use Rattle.rules.specs.Lists.{all, any, joined}
-use Rattle.rules.specs.State.{Book, Empty, view, historyOf, emptyBook}
-use Rattle.rules.specs.Replies.{told, plain}
-use Rattle.rules.specs.Effects.{effect, balance, holder, total, oldest, recordsOf}
+use Rattle.rules.specs.Limits.{memberCount, assetCount, domainCount, highestField, mostLines, mostBytes}
+use Rattle.rules.specs.Lists.{all, any, joined, those}
+use Rattle.rules.specs.Tables.{editedTable, depositShape, paymentShape, recordShape}
+use Rattle.rules.specs.State.{Book, Empty, view, deskOf, historyOf, emptyBook, inboxOf}
+use Rattle.rules.specs.Replies.{told, plain, Reply}
+use Rattle.rules.specs.Effects.{effect, edits, changesNothing, balance, holder, total, oldest, recordsOf}
 use Rattle.rules.specs.Frame.{inFrame}
 use Rattle.rules.specs.History.{provenanceOf, withdrawals, historyInFrame}
-use Rattle.rules.specs.Lots.{inLine}
+use Rattle.rules.specs.Lots.{noLot, inLine}
 use Rattle.rules.specs.Answer.{Outcome, answer, traceAnswer, provenanceAnswer}
 use Rattle.rules.specs.Runs.{run, accepted, deposits, sends, settlements, sentAfter}
 use Rattle.rules.specs.Sheet.{upFrom, acceptedDeposits, settledSum, unclaimedSum, balancesSum, outboxSum, BalanceSheet, chainTotal}
 use Rattle.rules.specs.Views.{seenOutside, outsideView, seenBy, shownTo, memberView, asks, hasRoom}
-use Rattle.rules.specs.Lines.{tab, fields, Numbers, numbers, readLine, numbersOf, writeLine}
+use Rattle.rules.specs.Lines.{fields, readLine, numbersOf, writeLine}
 use Rattle.rules.specs.Transcript.{InputLine, linesFrom, inputLines, readInput, answerLine, replyText, endText, transcript}
 use Rattle.lots.specs.Traces.{worth, isPositive, coins, beforePayment}
 use Rattle.runner.specs.Machine.{start, writes, closing, writesAll}
 use Rattle.runner.specs.Feeding.{Ready}
 use Rattle.runner.specs.Kept.{Kept, bookIn, machineIn, onPage, Closed}
 use Rattle.promises.specs.Demand1.{possible, isOneOf, applying, outcomes, replyTexts, doneCount, otherCount, answered, lineFeeds, asRead, isEmpty}
-use Rattle.promises.specs.Demand2.{holderBy, nonceOf, queued, sendCalls, waitingIn, noPayment, claims, claimsLot, made, recordOf, paymentBy, traced, coinsIn}
-use Rattle.promises.specs.Carried.{callsOf, callsIn, ended, after, Beginning, outboxShown, Chain, Steps}
+use Rattle.promises.specs.Demand2.{holderBy, nonceOf, queued, sendCalls, waitingIn, noPayment, claims, isClaimed, claimsLot, made, recordOf, paymentBy, traced, coinsIn}
+use Rattle.promises.specs.Carried.{callsOf, callsIn, ended, after, Beginning, Chain, Steps}
 
--- ======== Demand 1. "Every call on every book, and every input line up to line 100,000, ends with an answer from a fixed table. A refused call changes nothing. An absent number is refused, never read as nought."
+-- ======== Demand 1. "Every call on every book, and every input line up to line 100,000, ends with an answer from the fixed table. The ledger checks for itself. A refused call changes no record, and an absent number is refused, never read as nought."
 
 -- the number that a call on a book gets
 pub record Numbered (b : Book) (c : Call) : Type 0 where
-  -- it is one of those that document 01's table has for this call, at most 21
+  -- it is one of those that document 01's table has for this call, none above 21
   pub oneOfItsOwn : isOneOf (answer b c .reply .number) (possible c) ≡ true
-  pub atMost : answer b c .reply .number ≤ 21
   -- a refusal that is given applies
   pub applies : answer b c .reply .number ≢ 0 → isOneOf (answer b c .reply .number) (applying b c) ≡ true
   -- "Where several of a call's refusals apply, the smallest number is given": beside each that applies, the number is not 0 and not above it
@@ -47,6 +47,14 @@ pub record Unchanged (b : Book) (o : Outcome) : Type 0 where
   pub book : o .book ≡ b
   pub values : o .reply .values ≡ []
   pub pieces : o .pieces ≡ []
+
+-- what an accepted call leaves: its effect; said of the desk, the numbers after that effect; and said of each flat table, its one edit. Every other number of the table is as it was, those of the unused rows too
+pub record Leaves (b : Book) (c : Call) : Type 0 where
+  pub state : view (answer b c .book) ≡ effect c (view b)
+  pub desk : answer b c .book .desk ≡ deskOf (effect c (view b))
+  pub inbox : answer b c .book .inbox ≡ editedTable depositShape (edits c (view b) .inbox) (b .desk .unclaimed) (b .inbox)
+  pub outbox : answer b c .book .outbox ≡ editedTable paymentShape (edits c (view b) .outbox) (b .desk .payments) (b .outbox)
+  pub history : answer b c .book .history ≡ editedTable recordShape (edits c (view b) .history) (b .desk .records) (b .history)
 
 -- the line, read as a call or not, gets a number up to 21, and changes nothing unless that is 0
 pub record LineAnswered (b : Book) (l : Line) : Type 0 where
@@ -62,30 +70,30 @@ pub record CutInto (read : List ℕ) (feeds : ℕ) (ls : List InputLine) : Type 
   pub atMost : length ls ≤ feeds + 1
   pub someByte : all (λ l. l .finished || leb 1 (length (l .text))) ls ≡ true
 
--- what is written is one reply for each of the first 100,000 lines, numbered 1, 2, 3, .., and then the tally, whose two numbers sum to the count of lines; each reply and the tally is one line
+-- what is written is one reply for each of the first 100,000 lines (by definition, `inputLines`), numbered 1, 2, 3, .., and then the tally, whose two numbers sum to the count of lines; each reply and the tally is one line
 pub record Answers (input : List ℕ) : Type 0 where
   pub text : transcript input ≡ replyTexts 1 (answered input) ++ endText (record { done = doneCount (answered input); other = otherCount (answered input) })
   pub oneEach : length (answered input) ≡ length (inputLines input)
   pub tally : doneCount (answered input) + otherCount (answered input) ≡ length (inputLines input)
-  -- by definition: the first 100,000 of the lines into which the input is cut
-  pub upTo : inputLines input ≡ take mostLines (linesFrom [] input)
   pub oneLine : (n : ℕ) (o : Outcome) → lineFeeds (replyText n o) ≡ 1
   pub lines : lineFeeds (transcript input) ≡ length (inputLines input) + 1
 
--- a line one of whose fields is empty is Malformed, and so is one with two tabs together, or a tab first or last, whatever stands around them; a Malformed line gets 1, on every book
+-- a line one of whose fields is empty is Malformed, whatever stands around it: one with two tabs together is such a line, or with a tab first or last; a Malformed line gets 1, on every book
 pub record EmptyFields : Type 0 where
   pub someField : (s : List ℕ) → any isEmpty (fields s) ≡ true → readLine s ≡ Line.Malformed
-  pub twoTabs : (before after : List ℕ) → readLine (before ++ (tab ∷ tab ∷ after)) ≡ Line.Malformed
-  pub tabFirst : (after : List ℕ) → readLine (tab ∷ after) ≡ Line.Malformed
-  pub tabLast : (before : List ℕ) → readLine (before ++ (tab ∷ [])) ≡ Line.Malformed
   pub malformed : (b : Book) → answerLine b Line.Malformed .reply ≡ plain 1
 
--- a finished line is read, and an unfinished one is Malformed; a call that is written as a line is read as that call; and the numbers of a call that is read are those of the fields after the word, as many and in the same order: none is read as nought that is not there
+-- the line is this call written out, its word and then its numbers, each after a tab; it has at most 120 bytes, and no number is above the highest of a field
+pub record IsWritten (s : List ℕ) (c : Call) : Type 0 where
+  pub text : s ≡ writeLine c
+  pub short : length s ≤ mostBytes
+  pub numbers : all (λ n. leb n highestField) (numbersOf c) ≡ true
+
+-- a finished line is read, and an unfinished one is Malformed; and a line reads as a call exactly if it is that call written out, so any other line is Malformed: no number is read as nought that is not there, and no word or number in two ways
 pub record Reading : Type 0 where
   pub finished : (s : List ℕ) → readInput (record { text = s; finished = true }) ≡ readLine s
   pub unfinished : (s : List ℕ) → readInput (record { text = s; finished = false }) ≡ Line.Malformed
-  pub written : (c : Call) → all (λ n. leb n highestField) (numbersOf c) ≡ true → readLine (writeLine c) ≡ Line.Reads c
-  pub noneMissing : (s : List ℕ) (c : Call) → readLine s ≡ Line.Reads c → numbers (drop 1 (fields s)) ≡ Numbers.allRead (numbersOf c)
+  pub exactly : (s : List ℕ) (c : Call) → readLine s ≡ Line.Reads c ↔ IsWritten s c
 
 -- the library's trace, lent any two tables: it gets 0, 2, 20 or 21, and refused it tells no values and leaves both tables as found
 pub record LentTrace (b : Book) (work out : List Lot) (n : Nonce) : Type 0 where
@@ -97,9 +105,13 @@ pub record LentTrace (b : Book) (work out : List Lot) (n : Nonce) : Type 0 where
 pub record Demand1 : Type 0 where
   -- every call on every book ends with an answer from the table
   pub calls : (b : Book) (c : Call) → Numbered b c
-  -- a refused call changes nothing
+  -- a refused call changes no record, nor anything else
   pub refused : (b : Book) (c : Call) → answer b c .reply .number ≢ 0 → Unchanged b (answer b c)
-  -- the same of a trace that is lent its tables, whatever they are; and the library's question for a provenance gets 0, 2, 3 or 4
+  -- an accepted one leaves its effect, on every book
+  pub leaves : (b : Book) (c : Call) → Accepted b c → Leaves b c
+  -- a sign request and a trace change nothing, accepted or refused
+  pub nothing : (b : Book) (c : Call) → changesNothing c ≡ true → answer b c .book ≡ b
+  -- a trace that is lent its tables, whatever they are, is refused in the same way; and the library's question for a provenance gets 0, 2, 3 or 4
   pub lentTraces : (b : Book) (work out : List Lot) (n : Nonce) → LentTrace b work out n
   pub questions : (b : Book) (m a : ℕ) → isOneOf (provenanceAnswer b m a .number) (0 ∷ 2 ∷ 3 ∷ 4 ∷ []) ≡ true
   -- a call to trace is never answered 20 TableSmall: its tables have a row for every record that a book in frame can have
@@ -115,7 +127,7 @@ pub record Demand1 : Type 0 where
   -- never read as nought
   pub reading : Reading
 
--- ======== Demand 2. "From an empty book, every answer, balance, queue, record and trace is what the rules give, and each kept balance equals the provenance worked out from the history alone."
+-- ======== Demand 2. "From an empty book, every answer, balance, queue, history record and trace is what the transition rules of the PASS paper give, as document 01 amends them, and each kept balance equals the provenance worked out from the history alone."
 
 -- the book is in frame, its history too, so that no call, no trace and no question is answered 2 BadBook
 pub record InFrame (b : Book) : Type 0 where
@@ -124,11 +136,6 @@ pub record InFrame (b : Book) : Type 0 where
   pub noBadCall : (c : Call) → answer b c .reply .number ≢ 2
   pub noBadTrace : (work out : List Lot) (n : Nonce) → traceAnswer b work out n .reply .number ≢ 2
   pub noBadQuestion : (m a : ℕ) → provenanceAnswer b m a .number ≢ 2
-
--- the call is accepted exactly if its facts hold (Facts): fields in their limits, the next number, enough, the holder, room; and what an accepted call leaves is its effect
-pub record Accepting (b : Book) (c : Call) : Type 0 where
-  pub exactly : Accepted b c ↔ Fit (view b) c
-  pub leaves : Accepted b c → view (answer b c .book) ≡ effect c (view b)
 
 -- every balance is the provenance, and the library question gives it; every holder is the one by the grants; the next nonce is the number of withdrawals
 pub record ByHistory (b : Book) : Type 0 where
@@ -182,19 +189,26 @@ pub record PaymentTraced (b : Book) (cs : List Call) (n : Nonce) : Type 0 where
   -- coin by coin they are the oldest in the payer's line, as the records before the payment left it
   pub oldestFirst : coins (traced b cs n)
       ≡ take (recordOf b cs n .amount) (coinsIn (beforePayment (n .0) (historyOf (run b cs))) (recordOf b cs n .first) (recordOf b cs n .asset))
-  -- a trace that is lent its two tables gives the same reply, and the same pieces in the first rows of theirs
-  pub lent : (work out : List Lot) → historyRows ≤ length work → historyRows ≤ length out
-      → (traceAnswer (run b cs) work out n .reply ≡ answer (run b cs) (Call.Trace n) .reply)
-      × (take (length (traced b cs n)) (traceAnswer (run b cs) work out n .pieces) ≡ traced b cs n)
+  -- lent two tables, "each with at least as many rows as the history has records", it gives the same reply; every row of the work table ends as zeros, and the pieces fill the first rows of theirs, the rest as it was
+  pub lent : (work out : List Lot) → length (historyOf (run b cs)) ≤ length work → length (historyOf (run b cs)) ≤ length out
+      → traceAnswer (run b cs) work out n
+      ≡ record {
+        reply = answer (run b cs) (Call.Trace n) .reply;
+        work = replicate (length work) noLot;
+        pieces = traced b cs n ++ drop (length (traced b cs n)) out;
+      }
 
 -- after any calls from an empty book
 pub record Demand2 (b : Book) (cs : List Call) : Type 0 where
   -- the book stays in frame
   pub frame : InFrame (run b cs)
-  -- every answer is what the rules give, and so is what every accepted call leaves
-  pub accepting : (c : Call) → Accepting (run b cs) c
+  -- every answer is what the rules give: a call is accepted exactly if its facts hold (Facts): fields in their limits, the next number, enough, the holder, room; and it leaves its effect
+  pub accepting : (c : Call) → Accepted (run b cs) c ↔ Fit (view (run b cs)) c
+  pub leaves : (c : Call) → Accepted (run b cs) c → Leaves (run b cs) c
   -- every record is what the rules give: the history is the records of the accepted calls, in order
   pub records : historyOf (run b cs) ≡ joined recordsOf (accepted b cs)
+  -- the inbox is the accepted deposits that no accepted claim took, in order
+  pub inbox : inboxOf (run b cs) ≡ those (λ d. not (isClaimed (claims b cs) d)) (deposits b cs)
   -- each kept balance equals the provenance worked out from the history alone, and so for holders and the next nonce
   pub byHistory : ByHistory (run b cs)
   -- the balance sheet holds for each asset
@@ -207,20 +221,36 @@ pub record Demand2 (b : Book) (cs : List Call) : Type 0 where
   pub payments : length (made b cs) ≡ withdrawals (historyOf (run b cs))
   pub traces : (n : Nonce) → n .0 < run b cs .desk .next .0 → PaymentTraced b cs n
 
--- ======== Demand 3. "Two runs that agree on what the outside may see look the same from outside; two runs that agree on what names one member look the same to that member."
+-- ======== Demand 3. "Take two runs from an empty book. If their accepted deposits, withdrawals, sends and settlements agree in order, the withdrawing member aside, the outside world sees the same payments, nonces, settlements and chain totals. If the accepted calls that name one member, with deposits for that member, agree in order, that member's balances, unclaimed deposits, domains and statement agree, and the member's next claim, transfer, grant, withdrawal or sign request gets the same answer, provided that neither book's history or outbox is full."
 -- All of it is said over `accepted`, `run` and `answer`, the definitions of demand 2, and over nothing weaker: a ledger that refuses all calls, or that replies rightly and stores nothing, would have such a property too, but its calls are not accepted, or its books not left, as `answer` says, so it does not meet demand 2.
 
 -- the outside: if the accepted deposits, withdrawals (the member aside), sends and settlements are the same, in order, then so are the payments in flight and waiting, the next nonce, the answers of the sends, the settlements, and every asset's chain total
 abbrev pub OutsideTold : Type 0
 OutsideTold = (b b′ : Book) → Empty b → Empty b′ → (cs cs′ : List Call) → seenOutside b cs ≡ seenOutside b′ cs′ → outsideView b cs ≡ outsideView b′ cs′
 
+-- and so is everything else that the outside has a part in: the lifetime deposits and the settled total of every asset, and the last deposit number
+abbrev pub OutsideAgreed : Type 0
+OutsideAgreed = (b b′ : Book) → Empty b → Empty b′ → (cs cs′ : List Call) → seenOutside b cs ≡ seenOutside b′ cs′ → view (run b cs) .outside ≡ view (run b′ cs′) .outside
+
 -- a member, 1 to 16 (or any number: nothing turns on it): if the accepted calls that name the member, deposits for the member among them, are the same, in order, then so are the eight balances, the unclaimed deposits, the domains held, and the statement
 abbrev pub MemberTold : Type 0
 MemberTold = (m : ℕ) (b b′ : Book) → Empty b → Empty b′ → (cs cs′ : List Call) → seenBy m b cs ≡ seenBy m b′ cs′ → memberView m b cs ≡ memberView m b′ cs′
 
--- the member's next call: if moreover neither book has a full history or a full outbox, then the member's next claim, transfer, withdrawal, grant or sign request gets the same reply from both, Done or refused
+-- the reply says of no table that it is full: it is neither 16 OutboxFull nor 17 HistoryFull
+pub record NoneFull (r : Reply) : Type 0 where
+  pub outbox : r .number ≢ 16
+  pub history : r .number ≢ 17
+
+-- the member's next call: if moreover neither reply says that a table is full, then the member's next claim, transfer, withdrawal, grant or sign request gets the same reply from both, Done or refused
 abbrev pub MemberAnswered : Type 0
 MemberAnswered =
+    (m : ℕ) (b b′ : Book) → Empty b → Empty b′ → (cs cs′ : List Call) → seenBy m b cs ≡ seenBy m b′ cs′
+    → (c : Call) → asks m c ≡ true → NoneFull (answer (run b cs) c .reply) → NoneFull (answer (run b′ cs′) c .reply)
+    → answer (run b cs) c .reply ≡ answer (run b′ cs′) c .reply
+
+-- so it does, as the demand has it, "provided that neither book's history or outbox is full"
+abbrev pub MemberAnsweredWithRoom : Type 0
+MemberAnsweredWithRoom =
     (m : ℕ) (b b′ : Book) → Empty b → Empty b′ → (cs cs′ : List Call) → seenBy m b cs ≡ seenBy m b′ cs′
     → (c : Call) → asks m c ≡ true → hasRoom (view (run b cs)) ≡ true → hasRoom (view (run b′ cs′)) ≡ true
     → answer (run b cs) c .reply ≡ answer (run b′ cs′) c .reply
@@ -229,15 +259,17 @@ MemberAnswered =
 pub record Demand3 : Type 0 where
   -- they look the same from outside
   pub outside : OutsideTold
+  pub agreed : OutsideAgreed
   -- they look the same to that member
   pub member : MemberTold
   -- and go on to do so
   pub next : MemberAnswered
+  pub nextWithRoom : MemberAnsweredWithRoom
 
 -- ======== What the code does is this. The contracts of the book runner's functions are said over a machine that is fed one byte at a time, from an empty book on (crate runner, specs/Machine). What the machine holds and writes is what the rules give, at every byte; and a chain of reads that meets the contracts is at every point that machine.
 
 -- the machine after any bytes
-pub record Fed (input : List ℕ) : Type 0 where
+pub record EveryByte (input : List ℕ) : Type 0 where
   -- the book that it holds is the one that the calls in these bytes lead to
   pub book : after input .book ≡ run emptyBook (callsIn input)
   -- so all of demand 2 holds of it
@@ -259,11 +291,10 @@ EachAnswered = (before : List InputLine) (l : InputLine) → outcomes emptyBook 
 -- demand 3 of the machine, after any two inputs: of their calls, and of the books that it holds
 pub record Alike (input input′ : List ℕ) : Type 0 where
   pub outside : seenOutside emptyBook (callsIn input) ≡ seenOutside emptyBook (callsIn input′) → outsideView emptyBook (callsIn input) ≡ outsideView emptyBook (callsIn input′)
-  -- among it what the two books show: the payments in flight, those waiting, and the next nonce
-  pub outbox : seenOutside emptyBook (callsIn input) ≡ seenOutside emptyBook (callsIn input′) → outboxShown (after input .book) ≡ outboxShown (after input′ .book)
+  pub agreed : seenOutside emptyBook (callsIn input) ≡ seenOutside emptyBook (callsIn input′) → view (after input .book) .outside ≡ view (after input′ .book) .outside
   pub member : (m : ℕ) → seenBy m emptyBook (callsIn input) ≡ seenBy m emptyBook (callsIn input′) → shownTo m (view (after input .book)) ≡ shownTo m (view (after input′ .book))
   pub next : (m : ℕ) → seenBy m emptyBook (callsIn input) ≡ seenBy m emptyBook (callsIn input′)
-      → (c : Call) → asks m c ≡ true → hasRoom (view (after input .book)) ≡ true → hasRoom (view (after input′ .book)) ≡ true
+      → (c : Call) → asks m c ≡ true → NoneFull (answer (after input .book) c .reply) → NoneFull (answer (after input′ .book) c .reply)
       → answer (after input .book) c .reply ≡ answer (after input′ .book) c .reply
 
 -- the code, after any chain of reads that meets its contracts
@@ -285,12 +316,12 @@ pub record Reached (read given : List ℕ) (k : Kept) : Type 0 where
   pub stops : mostLines < k .feeding .running .line → (more : List ℕ) → transcript (read ++ more) ≡ transcript read
 
 pub record TheCode : Type 0 where
-  pub fed : (input : List ℕ) → Fed input
+  pub everyByte : (input : List ℕ) → EveryByte input
   pub cut : HoweverCut
   pub each : EachAnswered
   pub alike : (input input′ : List ℕ) → Alike input input′
   pub chain : (read given : List ℕ) (k : Kept) → Chain read given k → Reached read given k
-  -- and of any calls, from any book on: the book that the steps leave is the one that the calls lead to
+  -- and of any calls of the library, from any book on: the book that they leave is the one that the rules lead to
   pub steps : (b left : Book) (cs : List Call) → Steps b cs left → left ≡ run b cs
 
 -- ======== the whole

@@ -21,8 +21,8 @@ use Rattle.rules.specs.Replies.{numberOf, toldOrigin, smallest}
 use Rattle.rules.specs.Answer.{provenanceNumber, provenanceAnswer}
 use Rattle.rules.proofs.Laying.{length-rows, rows-split}
 use Rattle.rules.proofs.Tests.{both, all-at}
-use Rattle.tables.proofs.Rest.{rowAt}
-use Rattle.tables.specs.Rows.{lieWithin}
+use Rattle.tables.specs.Rows.{lieWithin, rowAt}
+use Rattle.rules.proofs.Books.{Framed, framed}
 use Rattle.desk.proofs.Books.{Framed, framed}
 use Rattle.lots.specs.Traces.{standingThrough}
 use Rattle.lots.proofs.Fits.{transfer-fits, withdrawal-fits}
@@ -103,7 +103,7 @@ module _ (t : List ℕ) (n : ℕ) (can : CanWork t n) (some : 1 ≤ n) where
 
   pub can-go-back : CanWork t (n - 1)
   unfolding before
-  can-go-back = record { few = omega arith; lie = omega (arith, can .lie); framed = parts .0 }
+  can-go-back = record { few = omega arith; framed = parts .0 }
 
   -- what the first member has at this point is the sum so far
   covers : (m a : ℕ) → last .amount ≤ balance (standingThrough emptyStanding before .balances) (last .first) (last .asset) → byFirst m a last ≡ true → last .amount ≤ provenanceOf m a before
@@ -148,7 +148,7 @@ pub can-work : (b : Book) → inFrame b && historyInFrame (historyOf b) ≡ true
 can-work b h =
     let (u, v) = both (inFrame b) (historyInFrame (historyOf b)) h in
     let f : Framed b = framed b u in
-    record { few = f .records; lie = omega arith; framed = v }
+    record { few = f .records; framed = v }
 
 -- ---- the table of refusals
 pub not-both : (t u : Bool) → not t || not u ≡ not (t && u)

@@ -17,7 +17,8 @@ use Rattle.rules.specs.State.{emptyState}
 use Rattle.rules.specs.Facts.{Within}
 use Rattle.rules.proofs.Tests.{both, both-of, within-true, true-within, all-at, all-set}
 use Rattle.rules.proofs.Digits.{all-imply}
-use Rattle.tables.proofs.Rest.{passes, rest, rowAt, rest-all, passes-fails, passes-goes, passes-end}
+use Rattle.tables.specs.Rows.{rowAt}
+use Rattle.tables.proofs.Rest.{passes, rest, rest-all, passes-fails, passes-goes, passes-end}
 use Rattle.lots.proofs.Fits.{Moves, claim-fits, transfer-fits, withdrawal-fits}
 use Rattle.records.specs.Test.{standing, allUpTo, mostBefore, Cell, CanFollow, historyFrame}
 

@@ -1,28 +1,21 @@
--- Any two results that a public function's contract allows coincide, refusals too.
-use Prim.Native.Nat.{ℕ}
-use mathlib.Core.Path.{_≡_, sym, _∙_}
-use mathlib.Core.Bool.{Bool, _&&_}
-use mathlib.Core.List.{List}
-use Rattle.rules.specs.declared.rows.Record.{Record}
-use Rattle.rules.specs.declared.answers.Origin.{Origin}
-use Rattle.rules.specs.Tables.{recordShape}
-use Rattle.rules.specs.State.{Book, historyOf}
-use Rattle.rules.specs.Frame.{inFrame}
-use Rattle.rules.specs.History.{historyInFrame}
-use Rattle.rules.specs.Replies.{toldOrigin}
-use Rattle.rules.specs.Answer.{provenanceAnswer}
-use Rattle.rules.proofs.Told.{once, origin-once}
-use Rattle.tables.proofs.Rest.{rowAt}
-use Rattle.records.specs.Test.{historyFrame}
+-- Any two results that a public function's contract allows coincide (`Coincide` of `rules`), refusals too.
+use mathlib.Core.Path.{refl, sym, _∙_}
+use Rattle.rules.specs.Coincide.{Coincide}
+use Rattle.rules.proofs.Told.{origin-once}
+use Rattle.rules.proofs.Coincide.{both, value}
+use Rattle.records.proofs.record_at as record-at
+use Rattle.records.proofs.book_in_frame as book-in-frame
+use Rattle.records.proofs.frame.history_in_frame as history-in-frame
+use Rattle.records.proofs.origin.provenance as provenance
 
-pub record-at-once : (i : ℕ) (t : List ℕ) {r r′ : Record} → r ≡ rowAt recordShape i t → r′ ≡ rowAt recordShape i t → r ≡ r′
-record-at-once i t = once (rowAt recordShape i t)
+pub record-at-once : Coincide record-at.ended (λ M 𝓤. record-at.clauses 𝓤)
+record-at-once w x g = value w
 
-pub book-in-frame-once : (b : Book) {r r′ : Bool} → r ≡ inFrame b && historyInFrame (historyOf b) → r′ ≡ inFrame b && historyInFrame (historyOf b) → r ≡ r′
-book-in-frame-once b = once (inFrame b && historyInFrame (historyOf b))
+pub book-in-frame-once : Coincide book-in-frame.ended (λ M 𝓤. book-in-frame.clauses 𝓤)
+book-in-frame-once w x g = value w
 
-pub history-in-frame-once : (t : List ℕ) (n : ℕ) (r r′ : Bool) → r ≡ historyFrame t n → r′ ≡ historyFrame t n → r ≡ r′
-history-in-frame-once t n r r′ p q = p ∙ sym q
+pub history-in-frame-once : Coincide history-in-frame.ended (λ M 𝓤. history-in-frame.clauses 𝓤)
+history-in-frame-once w x g = value w
 
-pub provenance-once : (b : Book) (m a : ℕ) (r r′ : Origin) → toldOrigin r ≡ provenanceAnswer b m a → toldOrigin r′ ≡ provenanceAnswer b m a → r ≡ r′
-provenance-once b m a r r′ p q = origin-once r r′ (p ∙ sym q)
+pub provenance-once : Coincide provenance.ended (λ M 𝓤. provenance.clauses 𝓤)
+provenance-once w x g = both w (λ p q. (origin-once _ _ (p ∙ sym q), refl))

@@ -1,9 +1,8 @@
 -- What keeps the working out of a provenance within the numbers: a history in frame.
-use Prim.Native.Nat.{ℕ, _+_, _*_, _≤_, _<_}
+use Prim.Native.Nat.{ℕ, _+_, _≤_, _<_}
 use mathlib.Core.Path.{_≡_}
 use mathlib.Core.Bool.{true}
 use mathlib.Core.List.{List}
-use lib.ListN.{length}
 use Rattle.rules.specs.declared.rows.Record.{Record}
 use Rattle.rules.specs.Limits.{historyRows}
 use Rattle.rules.specs.Tables.{rowsOf, recordShape}
@@ -12,7 +11,6 @@ use Rattle.rules.specs.History.{byFirst, historyInFrame}
 -- so many rows of the table are a history in frame
 pub record CanWork (t : List ℕ) (left : ℕ) : Type 0 where
   pub few : left ≤ historyRows
-  pub lie : left * 5 ≤ length t
   pub framed : historyInFrame (rowsOf recordShape left t) ≡ true
 
 -- the record counts on n without passing either end of the numbers

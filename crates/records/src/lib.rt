@@ -9,29 +9,51 @@ use frames::in_frame;
 use rules::rows::Record;
 ghost use mathlib.Core.Path.{_≡_};
 ghost use mathlib.Core.Bool.{_&&_};
-ghost use Prim.Native.Nat.{_+_, _*_, _≤_};
-ghost use lib.ListN.{length};
+ghost use Prim.Native.Nat.{_+_, _*_};
+ghost use lib.ListN.{getD};
 ghost use Rattle.rules.specs.Tables.{recordShape};
 ghost use Rattle.rules.specs.State.{historyOf};
 ghost use Rattle.rules.specs.Frame.{inFrame};
 ghost use Rattle.rules.specs.History.{historyInFrame};
 ghost use Rattle.rules.specs.Answer.{bookOf};
 ghost use Rattle.frames.specs.Parts.{deskWith};
-ghost use Rattle.tables.proofs.Rest.{rowAt};
+ghost use Rattle.tables.specs.Rows.{rowAt};
 
-// The record in row i.
+// The record in row i; what the table does not have of it is zeros.
 pub fn record_at(history: &[u64], i: usize) -> Record
-    requires { ⌜ i * 5 + 5 ≤ length (now history) ⌝ }
     ensures { λ r. ⌜ r ≡ rowAt recordShape i (now (history .entry)) ⌝ }
 {
-    let at = i * 5;
-    Record {
-        kind: history[at],
-        asset: history[at + 1],
-        amount: history[at + 2],
-        first: history[at + 3],
-        second: history[at + 4],
+    if i < history.len() / 5 {
+        let at = i * 5;
+        return Record {
+            kind: history[at],
+            asset: history[at + 1],
+            amount: history[at + 2],
+            first: history[at + 3],
+            second: history[at + 4],
+        };
     }
+    Record {
+        kind: number_at(history, i, 0),
+        asset: number_at(history, i, 1),
+        amount: number_at(history, i, 2),
+        first: number_at(history, i, 3),
+        second: number_at(history, i, 4),
+    }
+}
+
+// Number k of row i, or 0 where the table ends before it.
+fn number_at(history: &[u64], i: usize, k: usize) -> u64
+    ensures { λ r. ⌜ r ≡ getD (now (history .entry)) (i * 5 + k) 0 ⌝ }
+{
+    if history.len() / 5 < i {
+        return 0;
+    }
+    let at = i * 5;
+    if history.len() - at <= k {
+        return 0;
+    }
+    history[at + k]
 }
 
 // Whether a book is in frame, "for provenance and trace also" its history.

@@ -1,17 +1,17 @@
--- Any two results that a public function's contract allows coincide.
-use Prim.Native.Nat.{ℕ}
-use mathlib.Core.Path.{_≡_, sym, _∙_}
-use mathlib.Core.List.{List}
-use lib.ListN.{length}
-use Rattle.rules.specs.declared.rows.Lot.{Lot}
-use Rattle.rules.specs.Tables.{rowsOf, recordShape}
-use Rattle.lots.specs.Traces.{beforePayment}
-use Rattle.replays.specs.Replaying.{Traces}
+-- Any two results that a public function's contract allows coincide (`Coincide` of `rules`); of a trace, all but the held table.
+use mathlib.Core.Path.{_≡_}
+use Rattle.rules.specs.Coincide.{Two, Coincide, AnyTwo}
+use Rattle.rules.proofs.Told.{once}
+use Rattle.rules.proofs.Coincide.{both, value}
+use Rattle.replays.proofs.payment_at as payment-at
+use Rattle.replays.proofs.traced as traced
 
-pub payment-at-once : (history : List ℕ) (records n : ℕ) (r r′ : ℕ) → r ≡ length (beforePayment n (rowsOf recordShape records history)) → r′ ≡ length (beforePayment n (rowsOf recordShape records history)) → r ≡ r′
-payment-at-once history records n r r′ p q = p ∙ sym q
+pub payment-at-once : Coincide payment-at.ended (λ M 𝓤. payment-at.clauses 𝓤)
+payment-at-once w x g = value w
 
 -- how many pieces, and every row of the work table and of the pieces'
-pub traced-once : (history : List ℕ) (records n : ℕ) (work pieces : List Lot) (r r′ : ℕ) (w w′ p p′ : List Lot) → Traces history records n work pieces r w p → Traces history records n work pieces r′ w′ p′
-    → (r ≡ r′) × (w ≡ w′) × (p ≡ p′)
-traced-once history records n work pieces r r′ w w′ p p′ e f = (e .counts ∙ sym (f .counts), e .clears ∙ sym (f .clears), e .lays ∙ sym (f .lays))
+abbrev pub OneTrace : Two traced.ended → Type 0
+OneTrace x = (x .result ≡ x .result′) × (x .left .1 .1 .1 .0 ≡ x .left′ .1 .1 .1 .0) × (x .left .1 .1 .1 .1 .1 .0 ≡ x .left′ .1 .1 .1 .1 .1 .0)
+
+pub traced-once : AnyTwo traced.ended (λ M 𝓤. traced.clauses 𝓤) OneTrace
+traced-once w x g = both w (λ p q. (once _ (p .counts) (q .counts), once _ (p .clears) (q .clears), once _ (p .lays) (q .lays)))

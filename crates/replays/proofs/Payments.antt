@@ -17,7 +17,8 @@ use Rattle.rules.specs.History.{isWithdrawal, withdrawals}
 use Rattle.rules.specs.Lots.{takenBy, lotsAfter, replay, traceFrom}
 use Rattle.rules.proofs.Laying.{length-rows, take-rows, more}
 use Rattle.rules.proofs.Tests.{both}
-use Rattle.tables.proofs.Rest.{rowAt, rest, rest-all, rest-step, rest-end}
+use Rattle.tables.specs.Rows.{rowAt}
+use Rattle.tables.proofs.Rest.{rest, rest-all, rest-step, rest-end}
 use Rattle.lots.specs.Traces.{beforePayment, afterPayment, nthWithdrawal, PaymentAt}
 use Rattle.lots.proofs.TraceLaws.{payment-at, pieces-at}
 use Rattle.lots.proofs.LotCounts.{replay-count}
@@ -138,7 +139,7 @@ replay-more t i used work a r e n after q =
     record { lots = q .lots ∙ s; count = q .count ∙ ap length s }
 
 -- there is room for one record more
-pub can-replay : (t : List ℕ) (work₀ held₀ : List Lot) (at i used : ℕ) (work held : List Lot) → CanReplayAll at t work₀ held₀ → i < at → length work ≡ length work₀ → length held ≡ length held₀ → ReplaysAll i t used work → CanReplay used work held
+pub can-replay : (t : List ℕ) (work₀ held₀ : List Lot) (at i used : ℕ) (work held : List Lot) → CanReplayAll at work₀ held₀ → i < at → length work ≡ length work₀ → length held ≡ length held₀ → ReplaysAll i t used work → CanReplay used work held
 can-replay t work₀ held₀ at i used work held can l p q a =
     let few : used ≤ i = few-lots t i used work a in
     record { few = omega (arith, can .few); room = rw p (omega (arith, can .room)); scratch = rw q (omega (arith, can .scratch)) }

@@ -1,22 +1,22 @@
 -- What is handed out for a payment: the pieces that its record takes after the replay of those before it.
-use Prim.Native.Nat.{ℕ, _+_, _*_, _≤_, _<_}
+use Prim.Native.Nat.{ℕ, _≤_, _<_}
 use mathlib.Core.Path.{_≡_, sym, ap, _∙_}
-use mathlib.Core.List.{List, []}
+use mathlib.Core.List.{List, [], map}
 use native.Mathlib.Omega.{arith}
 use lib.ListN.{length, take, replicate}
 use Rattle.rules.specs.declared.rows.Record.{Record}
 use Rattle.rules.specs.declared.rows.Lot.{Lot}
 use Rattle.rules.specs.Tables.{rowsOf, recordShape}
-use Rattle.rules.specs.Lots.{noLot, traceFrom}
+use Rattle.rules.specs.Lots.{noLot, ofMember, traceFrom}
 use Rattle.rules.specs.Answer.{inFront}
 use Rattle.rules.proofs.Laying.{length-rows}
-use Rattle.tables.proofs.Rest.{rowAt}
+use Rattle.tables.specs.Rows.{rowAt}
 use Rattle.lots.specs.Traces.{beforePayment}
 use Rattle.lots.proofs.LotCounts.{pieces-count}
 use Rattle.takings.specs.declared.work.Taking.{Taking}
-use Rattle.takings.specs.Working.{CanTake, TakesFrom, joinedOn}
+use Rattle.takings.specs.Working.{CanTake, TakesFrom, appended}
 use Rattle.replays.specs.Replaying.{CanReplayAll, ReplaysAll, CanTrace, Traces}
-use Rattle.takings.proofs.Passing.{in-rows, joined-in-front}
+use Rattle.takings.proofs.Passing.{pieces-in-front}
 use Rattle.replays.proofs.Payments.{place-in, pieces-there, few-lots}
 
 module _ (history : List ℕ) (records n : ℕ) (work held out : List Lot) (can : CanTrace history records n work held out) (at : ℕ) (found : at ≡ length (beforePayment n (rowsOf recordShape records history))) where
@@ -24,11 +24,8 @@ module _ (history : List ℕ) (records n : ℕ) (work held out : List Lot) (can 
   in-place = rw found (place-in history records n (can .paid))
 
   -- the records before the payment can be replayed
-  pub can-replay-all : CanReplayAll at history work held
-  can-replay-all = record { few = omega (arith, in-place, can .few); lie = omega (arith, in-place, can .lie); room = omega (arith, in-place, can .room); scratch = omega (arith, in-place, can .scratch) }
-
-  pub record-there : at * 5 + 5 ≤ length history
-  record-there = omega (arith, in-place, can .lie)
+  pub can-replay-all : CanReplayAll at work held
+  can-replay-all = record { few = omega (arith, in-place, can .few); room = omega (arith, in-place, can .room); scratch = omega (arith, in-place, can .scratch) }
 
   -- ---- after the replay and the taking
   module _ (used : ℕ) (work₁ held₁ : List Lot) (wide : length work₁ ≡ length work) (long : length held₁ ≡ length held) (a : ReplaysAll at history used work₁) where
@@ -55,15 +52,11 @@ module _ (history : List ℕ) (records n : ℕ) (work held out : List Lot) (can 
       counted : t .taken ≡ length ps
       counted = p .taken ∙ ap length (sym (p .wait) ∙ taken-are)
 
-      pub few-pieces : t .taken ≤ records
+      few-pieces : t .taken ≤ records
       unfolding ps
       few-pieces = omega (arith, counted, pieces-count (rowsOf recordShape records history) (record { 0 = n }), length-rows recordShape records history)
 
-      -- the pieces are written into their table one after the other from the first row on
-      pub pieces-fit : 0 + t .taken ≤ 2048
-      pieces-fit = omega (arith, few-pieces, can .few)
-
-      pub traces : (laid cleared : List Lot) → laid ≡ joinedOn (r .first) (t .taken) 0 0 held₂ out → length work₂ ≡ length work₁ → cleared ≡ replicate (length work₂) noLot
+      pub traces : (laid cleared : List Lot) → laid ≡ appended 0 (map (ofMember (r .first)) (take (t .taken) held₂)) out → length work₂ ≡ length work₁ → cleared ≡ replicate (length work₂) noLot
           → Traces history records n work out (t .taken) cleared laid
       unfolding ps
       traces laid cleared l w c =
@@ -72,6 +65,6 @@ module _ (history : List ℕ) (records n : ℕ) (work held out : List Lot) (can 
             clears = c ∙ ap (λ (k : ℕ). replicate k noLot) (w ∙ wide);
             lays =
                 l
-                ∙ joined-in-front (r .first) (r .asset) (r .amount) (take used work₁) held₂ out (t .taken) (p .wait) (in-rows (t .taken) held₂ (ap length (p .wait) ∙ sym (p .taken))) (omega (arith, few-pieces, can .places))
+                ∙ pieces-in-front (r .first) (r .asset) (r .amount) (take used work₁) held₂ out (t .taken) (p .wait) (omega (arith, few-pieces, can .places))
                 ∙ ap (λ (k : List Lot). inFront k out) (sym (p .wait) ∙ taken-are);
           }

@@ -2,19 +2,19 @@
 use Prim.Native.Nat.{ℕ, _+_, _≤_}
 use mathlib.Core.Path.{_≡_, sym, ap, ap₂, _∙_}
 use mathlib.Core.List.{List, [], _∷_, _++_, map}
-use native.Mathlib.Numerals.{add-one}
 use native.Mathlib.Omega.{arith}
-use lib.ListN.{length, set, take, length-append, length-map}
-use lib.Seq.{take-suc-set, length-take-le}
+use lib.ListN.{length, take, length-append, length-map}
+use lib.Seq.{length-take-le}
 use Rattle.rules.specs.declared.rows.Record.{Record}
 use Rattle.rules.specs.declared.rows.Lot.{Lot}
 use Rattle.rules.specs.History.{Kind, kindOf}
 use Rattle.rules.specs.Lots.{ofMember, takenBy, leftBy, lotOf, lotsAs}
 use Rattle.lots.proofs.Taking.{takes, takes-count}
 use Rattle.takings.specs.declared.work.Taking.{Taking}
-use Rattle.takings.specs.Working.{CanTake, TakesFrom, joinedOn}
+use Rattle.takings.specs.Working.{CanTake, TakesFrom, appended}
 use Rattle.replays.specs.Replaying.{CanReplay, Replays}
-use Rattle.takings.proofs.Passing.{in-rows, joined-all}
+use Rattle.takings.proofs.Appending.{appended-front}
+use Rattle.takings.proofs.Passing.{in-rows}
 
 module _ (r : Record) (used : ℕ) (work held : List Lot) (can : CanReplay used work held) where
   -- as many lots lie in the used rows
@@ -37,13 +37,16 @@ module _ (r : Record) (used : ℕ) (work held : List Lot) (can : CanReplay used 
     unfolding lotsAs
     replays-withdrawal k after f = record { lots = rw (f, k) (e .stay); count = rw k (e .kept) }
 
-    pub replays-transfer : kindOf r ≡ Kind.transfer → (after : List Lot) → after ≡ joinedOn (r .second) (t .taken) 0 (t .kept) taken left → Replays r used work (t .kept + t .taken) after
+    pub replays-transfer : kindOf r ≡ Kind.transfer → (after : List Lot) → after ≡ appended (t .kept) (map (ofMember (r .second)) (take (t .taken) taken)) left → Replays r used work (t .kept + t .taken) after
     unfolding lotsAs
     replays-transfer k after f =
+        let ps : List Lot = map (ofMember (r .second)) (take (t .taken) taken) in
+        let n : length ps ≡ t .taken = length-map (take (t .taken) taken) (ofMember (r .second)) ∙ length-take-le (t .taken) taken few-taken in
         record {
           lots =
               rw (f, k)
-              (joined-all (r .second) (t .kept) taken (t .taken) left (omega (arith, few-after, same, can .room)) few-taken
+              (ap (λ (j : ℕ). take (t .kept + j) (appended (t .kept) ps left)) (sym n)
+              ∙ appended-front (t .kept) left ps (omega (arith, n, few-after, same, can .room))
               ∙ ap₂ (λ (x y : List Lot). x ++ map (ofMember (r .second)) y) (e .stay) (e .wait));
           count =
               rw (k, length-append (leftBy r (take used work)) (map (ofMember (r .second)) (takenBy r (take used work))), length-map (takenBy r (take used work)) (ofMember (r .second)))
@@ -51,11 +54,11 @@ module _ (r : Record) (used : ℕ) (work held : List Lot) (can : CanReplay used 
         }
 
   -- ---- the other kinds
-  pub replays-claim : kindOf r ≡ Kind.claim → (after : List Lot) → after ≡ set work used (lotOf r) → Replays r used work (used + 1) after
+  pub replays-claim : kindOf r ≡ Kind.claim → (after : List Lot) → after ≡ appended used (lotOf r ∷ []) work → Replays r used work (used + 1) after
   unfolding lotsAs
   replays-claim k after f =
       record {
-        lots = rw (f, k, add-one used) (take-suc-set work used (lotOf r) (omega (arith, can .room)));
+        lots = rw (f, k) (appended-front used work (lotOf r ∷ []) (omega (arith, can .room)));
         count = rw (k, length-append (take used work) (lotOf r ∷ [])) (omega (arith, used-count));
       }
 

@@ -1,5 +1,5 @@
 -- What the replay of one record and of those before a payment rest on and come to, and the pieces handed out.
-use Prim.Native.Nat.{ℕ, _*_, _≤_, _<_}
+use Prim.Native.Nat.{ℕ, _≤_, _<_}
 use mathlib.Core.Path.{_≡_}
 use mathlib.Core.List.{List, []}
 use lib.ListN.{length, take, replicate}
@@ -23,10 +23,9 @@ pub record Replays (r : Record) (used : ℕ) (work : List Lot) (n : ℕ) (left :
   pub count : n ≡ length (lotsAfter (take used work) r)
 
 -- ---- the records before a payment, and what it takes
--- so many records can be replayed: they lie in the table, and each table has a row for a lot of each
-pub record CanReplayAll (at : ℕ) (history : List ℕ) (work held : List Lot) : Type 0 where
+-- so many records can be replayed: each table has a row for a lot of each
+pub record CanReplayAll (at : ℕ) (work held : List Lot) : Type 0 where
   pub few : at ≤ 1024
-  pub lie : at * 5 ≤ length history
   pub room : at ≤ length work
   pub scratch : at ≤ length held
 
@@ -38,7 +37,6 @@ pub record ReplaysAll (at : ℕ) (history : List ℕ) (n : ℕ) (work : List Lot
 -- payment n can be traced: it is there, and every table has a row for each record
 pub record CanTrace (history : List ℕ) (records n : ℕ) (work held pieces : List Lot) : Type 0 where
   pub few : records ≤ 1024
-  pub lie : records * 5 ≤ length history
   pub room : records ≤ length work
   pub places : records ≤ length pieces
   pub scratch : records ≤ length held

@@ -4,13 +4,13 @@ use records::record_at;
 use rules::rows::DepositNumber;
 use rules::rows::Lot;
 use rules::rows::Record;
+use takings::rows::append;
 use takings::rows::clear;
-use takings::rows::put_lot;
 use takings::work::join;
 use takings::work::take_from;
 ghost use mathlib.Core.Path.{_≡_};
 ghost use mathlib.Core.Bool.{cond};
-ghost use Prim.Native.Nat.{_-_, _*_, _≤_};
+ghost use Prim.Native.Nat.{_-_};
 ghost use lib.ListN.{length};
 ghost use Rattle.rules.specs.Tables.{rowsOf, recordShape};
 ghost use Rattle.lots.specs.Traces.{beforePayment};
@@ -19,7 +19,6 @@ ghost use Rattle.replays.specs.Replaying.{CanReplay, Replays, CanReplayA
 // "Payment n is the withdrawal with n withdrawals before it": its place among the records, or past
 // the last where there is none.
 pub fn payment_at(history: &[u64], records: usize, n: u64) -> usize
-    requires { ⌜ records * 5 ≤ length (now history) ⌝ }
     ensures { λ r. ⌜ r ≡ length (beforePayment n (rowsOf recordShape records (now (history .entry)))) ⌝ }
 {
     let mut left = n;
@@ -67,7 +66,7 @@ pub fn traced(
 
 // "Replay the history": the lots after the first `at` records, from none; how many there are.
 fn replayed_until(history: &[u64], at: usize, work: &mut [Lot], held: &mut [Lot]) -> usize
-    requires { ⌜ CanReplayAll at (now history) (now work) (now held) ⌝ }
+    requires { ⌜ CanReplayAll at (now work) (now held) ⌝ }
     ensures { λ n. ⌜ ReplaysAll at (now (history .entry)) n (now (work .exit)) ⌝ }
 {
     let mut used: usize = 0;
@@ -95,7 +94,7 @@ fn replayed(work: &mut [Lot], used: usize, held: &mut [Lot], r: Record) -> usize
                 number,
                 amount: r.amount,
             };
-            put_lot(work, used, l);
+            append(work, used, l);
             used + 1
         }
         2 => {

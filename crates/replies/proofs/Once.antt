@@ -1,38 +1,32 @@
--- Any two results that a public function's contract allows coincide: each contract is an equation, of the result or of the page that is left.
-use Prim.Native.Nat.{ℕ}
-use mathlib.Core.Path.{_≡_}
-use mathlib.Core.List.{List, [], _∷_, _++_}
-use Rattle.rules.specs.declared.rows.Lot.{Lot}
-use Rattle.rules.specs.declared.answers.Refusal.{Refusal}
-use Rattle.rules.specs.declared.answers.Answer.{Answer}
-use Rattle.rules.specs.declared.answers.Tally.{Tally}
-use Rattle.rules.specs.Replies.{numberOf, told}
-use Rattle.rules.specs.Lines.{decimal, tabbed}
-use Rattle.rules.specs.Transcript.{pieceValues, endText}
-use Rattle.rules.proofs.Told.{once}
-use Rattle.pages.proofs.Once.{AtMostOne, put-once}
-use Rattle.replies.specs.Writing.{replyStart, replyLine}
+-- Any two results that a public function's contract allows coincide (`Coincide` of `rules`).
+use Rattle.rules.specs.Coincide.{Coincide}
+use Rattle.rules.proofs.Coincide.{value}
+use Rattle.pages.proofs.Once.{written}
+use Rattle.replies.proofs.reply_number as reply-number
+use Rattle.replies.proofs.refusal_number as refusal-number
+use Rattle.replies.proofs.put_reply as put-reply
+use Rattle.replies.proofs.put_piece as put-piece
+use Rattle.replies.proofs.put_answer as put-answer
+use Rattle.replies.proofs.put_reply_line as put-reply-line
+use Rattle.replies.proofs.put_end as put-end
 
--- ---- the numbers of replies
-pub reply-number-once : (a : Answer) {r r′ : ℕ} → r ≡ told a .number → r′ ≡ told a .number → r ≡ r′
-reply-number-once a = once (told a .number)
+pub reply-number-once : Coincide reply-number.ended (λ M 𝓤. reply-number.clauses 𝓤)
+reply-number-once w x g = value w
 
-pub refusal-number-once : (why : Refusal) {r r′ : ℕ} → r ≡ numberOf why → r′ ≡ numberOf why → r ≡ r′
-refusal-number-once why = once (numberOf why)
+pub refusal-number-once : Coincide refusal-number.ended (λ M 𝓤. refusal-number.clauses 𝓤)
+refusal-number-once w x g = value w
 
--- ---- the writer: the place and every byte of the buffer, whatever text a function writes
-module _ (o : List ℕ) (at : ℕ) where
-  pub put-reply-once : (n m : ℕ) → AtMostOne o at (decimal n ++ tabbed (m ∷ []))
-  put-reply-once n m = put-once o at (decimal n ++ tabbed (m ∷ []))
+pub put-reply-once : Coincide put-reply.ended (λ M 𝓤. put-reply.clauses 𝓤)
+put-reply-once w x g = written w
 
-  pub put-piece-once : (x : Lot) → AtMostOne o at (tabbed (pieceValues x))
-  put-piece-once x = put-once o at (tabbed (pieceValues x))
+pub put-piece-once : Coincide put-piece.ended (λ M 𝓤. put-piece.clauses 𝓤)
+put-piece-once w x g = written w
 
-  pub put-answer-once : (n : ℕ) (a : Answer) → AtMostOne o at (replyStart n (told a))
-  put-answer-once n a = put-once o at (replyStart n (told a))
+pub put-answer-once : Coincide put-answer.ended (λ M 𝓤. put-answer.clauses 𝓤)
+put-answer-once w x g = written w
 
-  pub put-reply-line-once : (n : ℕ) (a : Answer) → AtMostOne o at (replyLine n (told a))
-  put-reply-line-once n a = put-once o at (replyLine n (told a))
+pub put-reply-line-once : Coincide put-reply-line.ended (λ M 𝓤. put-reply-line.clauses 𝓤)
+put-reply-line-once w x g = written w
 
-  pub put-end-once : (t : Tally) → AtMostOne o at (endText t)
-  put-end-once t = put-once o at (endText t)
+pub put-end-once : Coincide put-end.ended (λ M 𝓤. put-end.clauses 𝓤)
+put-end-once w x g = written w

@@ -1,6 +1,6 @@
 -- What acceptance gives, and what a call leaves: shared by the proofs of the code and by the promises.
 use Prim.Native.Nat.{ℕ, zero, suc, _+_, _≤_, _<_}
-use mathlib.Core.Path.{_∙_, _≡_, refl}
+use mathlib.Core.Path.{_≡_, refl, sym, _∙_}
 use mathlib.Core.Logic.{_≢_}
 use mathlib.Core.Bool.{true, false, not, _&&_, _||_}
 use mathlib.Core.List.{List, _∷_}
@@ -11,16 +11,47 @@ use borrow.Author.Tests.{leb-false, ltb-false, eqb-true, eqb-false}
 use Rattle.rules.specs.Types.{Nonce, Deposit, ClaimFields, TransferFields, WithdrawalFields, GrantFields, SignFields, Call, Payment}
 use Rattle.rules.specs.Limits.{ceiling, highestNumber, inboxRows, outboxRows, historyRows}
 use Rattle.rules.specs.Lists.{all, any}
-use Rattle.rules.specs.State.{Book, view, laid, historyOf, payments}
-use Rattle.rules.specs.Replies.{numberOf, if-done}
+use Rattle.rules.specs.State.{State, Book, view, laid, historyOf, payments}
+use Rattle.rules.specs.Replies.{Reply, numberOf, told, if-done}
 use Rattle.rules.specs.Refusals.{refusals, traceRefusals, full}
 use Rattle.rules.specs.Effects.{effect, balance, holder, matches, total, oldest}
 use Rattle.rules.specs.Frame.{inFrame}
 use Rattle.rules.specs.History.{withdrawals, historyInFrame}
-use Rattle.rules.specs.Answer.{frameTest, replyNumber, answer}
+use Rattle.rules.specs.Answer.{frameTest, replyNumber, replyWith, doneAnswer, answer}
 use Rattle.rules.proofs.Shapes.{view-laid}
 use Rattle.rules.specs.Facts.{Accepted, Within, DepositFit, ClaimFit, TransferFit, WithdrawalFit, SendFit, SettleFit, GrantFit, SignFit, TraceFit, Fit}
 use Rattle.rules.proofs.Tests.{twice-not, not-holds, neither, within-true, all-at, numbered, none-applies}
+
+-- ---- the number in a reply
+-- what a done call tells has the number 0
+done-told : (s : State) (c : Call) → told (doneAnswer s c) .number ≡ 0
+unfolding told doneAnswer
+done-told s (Call.Deposit d) = refl
+done-told s (Call.Claim c) = refl
+done-told s (Call.Transfer t) = refl
+done-told s (Call.Withdraw w) = refl
+done-told s Call.Send = refl
+done-told s (Call.Settle n) = refl
+done-told s (Call.Grant g) = refl
+done-told s (Call.Sign g) = refl
+done-told s (Call.Trace n) = refl
+
+-- a reply with a number has that number
+pub reply-with : (n : ℕ) (r : Reply) → r .number ≡ 0 → replyWith n r .number ≡ n
+reply-with zero r h = h
+reply-with (suc n) r h = refl
+
+-- the number in the reply is the number that the rules give
+pub reply-number : (b : Book) (c : Call) → answer b c .reply .number ≡ replyNumber b c
+unfolding answer
+reply-number b c = reply-with (replyNumber b c) (told (doneAnswer (view b) c)) (done-told (view b) c)
+
+-- a call is accepted where that number is 0, and only there
+pub accepted-number : (b : Book) (c : Call) → Accepted b c → replyNumber b c ≡ 0
+accepted-number b c a = sym (reply-number b c) ∙ a .done
+
+pub by-number : (b : Book) (c : Call) → replyNumber b c ≡ 0 → Accepted b c
+by-number b c e = record { done = reply-number b c ∙ e }
 
 -- ---- what acceptance gives
 -- every number in a call's table, BadBook's too, is a refusal's
@@ -40,7 +71,7 @@ table-numbered b (Call.Trace n) = refl
 refused-not : (b : Book) (c : Call) → Accepted b c → (k : ℕ) → not (getD (frameTest b c ∷ refusals (view b) c) k (1, false) .1) ≡ true
 unfolding replyNumber
 refused-not b c a k =
-    all-at (λ r. not (r .1)) (frameTest b c ∷ refusals (view b) c) k (1, false) refl (none-applies (frameTest b c ∷ refusals (view b) c) (table-numbered b c) (a .done))
+    all-at (λ r. not (r .1)) (frameTest b c ∷ refusals (view b) c) k (1, false) refl (none-applies (frameTest b c ∷ refusals (view b) c) (table-numbered b c) (accepted-number b c a))
 
 -- the book is in frame
 pub accepted-frame : (b : Book) (c : Call) → Accepted b c → inFrame b ≡ true
@@ -214,6 +245,11 @@ pub state-after : (b : Book) (c : Call) → view (answer b c .book) ≡ if-done 
 unfolding answer
 state-after b c = rw (if-done-of view (replyNumber b c) (laid (effect c (view b)) b) b, view-laid (effect c (view b)) b)
 
--- of an accepted call, its effect
+-- the book that an accepted call leaves
+pub book-accepted : (b : Book) (c : Call) → Accepted b c → answer b c .book ≡ laid (effect c (view b)) b
+unfolding answer
+book-accepted b c a = rw (accepted-number b c a)
+
+-- its state is the effect
 pub state-accepted : (b : Book) (c : Call) → Accepted b c → view (answer b c .book) ≡ effect c (view b)
-state-accepted b c a = state-after b c ∙ rw (a .done)
+state-accepted b c a = state-after b c ∙ rw (accepted-number b c a)

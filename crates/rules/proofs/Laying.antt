@@ -7,7 +7,20 @@ use native.Mathlib.Omega.{arith}
 use lib.ListN.{length, take, drop, set, replicate, length-append, length-drop, length-set}
 use lib.Seq.{take-add, take-at, drop-at, drop-drop, length-take-le, set-split}
 use Rattle.rules.specs.Lists.{joined}
-use Rattle.rules.specs.Tables.{Shape, Sound, Edit, rowsOf, lay, edited, splice, withoutRow, editedTable, HasRoom}
+use Rattle.rules.specs.Tables.{Shape, Edit, rowsOf, lay, edited, splice, withoutRow, editedTable}
+
+-- what makes a shape sound: a row is as wide as the shape says, is read back as it was laid, and lies as it was read
+pub record Sound {A : Type 0} (shape : Shape A) : Type 0 where
+  pub wide : (a : A) → length (shape .flat a) ≡ shape .width
+  pub back : (a : A) → shape .row (shape .flat a) ≡ a
+  pub forth : (r : List ℕ) → length r ≡ shape .width → shape .flat (shape .row r) ≡ r
+
+-- an edit that a table of n used rows has room for
+unfoldable pub RoomFor : {A : Type 0} → Shape A → Edit A → ℕ → List ℕ → Type 0
+RoomFor shape Edit.keep n t = n * shape .width ≤ length t
+RoomFor shape (Edit.add a) n t = suc n * shape .width ≤ length t
+RoomFor shape (Edit.takeOut i) n t = (i < n) × (n * shape .width ≤ length t)
+RoomFor shape (Edit.change i a) n t = (i < n) × (n * shape .width ≤ length t)
 
 pub joined-append : {A B : Type 0} (f : A → List B) (xs ys : List A) → joined f (xs ++ ys) ≡ joined f xs ++ joined f ys
 unfolding joined
@@ -158,8 +171,8 @@ module _ {A : Type 0} (shape : Shape A) where
         )
 
     -- the four as one
-    pub lay-edited : (e : Edit A) (n : ℕ) (t : List ℕ) → HasRoom shape e n t → lay shape (edited e (rowsOf shape n t)) n t ≡ editedTable shape e n t
-    unfolding edited editedTable HasRoom
+    pub lay-edited : (e : Edit A) (n : ℕ) (t : List ℕ) → RoomFor shape e n t → lay shape (edited e (rowsOf shape n t)) n t ≡ editedTable shape e n t
+    unfolding edited editedTable RoomFor
     lay-edited Edit.keep n t f = lay-keep n t f
     lay-edited (Edit.add a) n t f = lay-add a n t f
     lay-edited (Edit.takeOut i) n t f = lay-takeOut i n t (f .0) (f .1)

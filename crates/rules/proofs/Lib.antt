@@ -10,3 +10,5 @@ pub mod ReadBack
 pub mod Tests
 pub mod Accepts
 pub mod Told
+pub mod Books
+pub mod Coincide

@@ -1,14 +1,14 @@
--- Reading a line that the writer wrote gives the call back, for every call whose fields fit.
+-- Reading a line that the writer wrote gives the call back, for every call whose fields fit in a line that is not too long.
 use Prim.Native.Nat.{ℕ, _*_, _≤_}
 use mathlib.Core.Path.{_≡_, refl, sym, ap, _∙_}
-use mathlib.Core.Bool.{Bool, true, false, not, _&&_, and-eq-true-iff}
+use mathlib.Core.Bool.{Bool, true, false, not, and-eq-true-iff}
 use mathlib.Core.List.{List, [], _∷_, _++_, map, append-nil, append-assoc}
 use native.Mathlib.Omega.{arith}
 use lib.Dec.{leb, eqb}
 use lib.ListN.{length, length-append}
 use borrow.Author.Tests.{leb-true, le-leb, ne-eqb, eqb-true, eqb-false, not-true}
 use Rattle.rules.specs.Types.{Call, Line}
-use Rattle.rules.specs.Limits.{highestField}
+use Rattle.rules.specs.Limits.{highestField, mostBytes}
 use Rattle.rules.specs.Lists.{all, same, indexOf, joined, bytes}
 use Rattle.rules.specs.Lines.{tab, fieldsFrom, fields, fieldEnd, firstField, afterField, isDigit, Numbers, andRead, numbers, depositForm, claimForm, transferForm, withdrawForm, sendForm, settleForm, grantForm, signForm, traceForm, forms, formed, formedOf, readFields, readLine, decimal, tabbed, formOf, numbersOf, writeLine}
 use Rattle.rules.proofs.Digits.{all-imply, decimal-spells, number-decimal}
@@ -82,31 +82,23 @@ length-tabbed (n ∷ ns) h =
     rw length-append (omega (arith, decimal-spells n a .short, length-tabbed ns t))
 
 -- ---- a line
--- a word of at most 8 bytes without a tab and at most 4 numbers: what the writer can write
-abbrev pub writable : List ℕ → List ℕ → Bool
-writable w ns = untabbed w && (leb (length w) 8 && leb (length ns) 4)
-
--- such a line, read, is the form of its word and its numbers
-pub read-written : (w ns : List ℕ) → writable w ns ≡ true → fitting ns ≡ true → readLine (w ++ tabbed ns) ≡ formed forms w ns
+-- a word without a tab and numbers that fit, in a line that is not too long: read, it is the form of its word and its numbers
+pub read-written : (w ns : List ℕ) → untabbed w ≡ true → fitting ns ≡ true → length (w ++ tabbed ns) ≤ mostBytes → readLine (w ++ tabbed ns) ≡ formed forms w ns
 unfolding readLine readFields formedOf
-read-written w ns h f =
-    let (u, s) = and-eq-true-iff (untabbed w) (leb (length w) 8 && leb (length ns) 4) .0 h in
-    let (a, b) = and-eq-true-iff (leb (length w) 8) (leb (length ns) 4) .0 s in
-    let short : length (w ++ tabbed ns) ≤ 120 = rw length-append (omega (arith, leb-true (length w) 8 a, leb-true (length ns) 4 b, length-tabbed ns f)) in
-    rw (le-leb (length (w ++ tabbed ns)) 120 short, fields-tabbed w ns u f, numbers-decimal ns f)
+read-written w ns u f short = rw (le-leb (length (w ++ tabbed ns)) mostBytes short, fields-tabbed w ns u f, numbers-decimal ns f)
 
 -- the nine calls: each is the form of its own word and numbers
-pub read-back : (c : Call) → all (λ n. leb n highestField) (numbersOf c) ≡ true → readLine (writeLine c) ≡ Line.Reads c
+pub read-back : (c : Call) → fitting (numbersOf c) ≡ true → length (writeLine c) ≤ mostBytes → readLine (writeLine c) ≡ Line.Reads c
 unfolding all bytes forms formed same formOf numbersOf writeLine depositForm claimForm transferForm withdrawForm sendForm settleForm grantForm signForm traceForm
-read-back (Call.Deposit d) h = read-written (bytes "deposit") (numbersOf (Call.Deposit d)) refl h
-read-back (Call.Claim c) h = read-written (bytes "claim") (numbersOf (Call.Claim c)) refl h
-read-back (Call.Transfer t) h = read-written (bytes "transfer") (numbersOf (Call.Transfer t)) refl h
-read-back (Call.Withdraw w) h = read-written (bytes "withdraw") (numbersOf (Call.Withdraw w)) refl h
-read-back Call.Send h = read-written (bytes "send") (numbersOf Call.Send) refl h
-read-back (Call.Settle n) h = read-written (bytes "settle") (numbersOf (Call.Settle n)) refl h
-read-back (Call.Grant g) h = read-written (bytes "grant") (numbersOf (Call.Grant g)) refl h
-read-back (Call.Sign g) h = read-written (bytes "sign") (numbersOf (Call.Sign g)) refl h
-read-back (Call.Trace n) h = read-written (bytes "trace") (numbersOf (Call.Trace n)) refl h
+read-back (Call.Deposit d) = read-written (bytes "deposit") (numbersOf (Call.Deposit d)) refl
+read-back (Call.Claim c) = read-written (bytes "claim") (numbersOf (Call.Claim c)) refl
+read-back (Call.Transfer t) = read-written (bytes "transfer") (numbersOf (Call.Transfer t)) refl
+read-back (Call.Withdraw w) = read-written (bytes "withdraw") (numbersOf (Call.Withdraw w)) refl
+read-back Call.Send = read-written (bytes "send") (numbersOf Call.Send) refl
+read-back (Call.Settle n) = read-written (bytes "settle") (numbersOf (Call.Settle n)) refl
+read-back (Call.Grant g) = read-written (bytes "grant") (numbersOf (Call.Grant g)) refl
+read-back (Call.Sign g) = read-written (bytes "sign") (numbersOf (Call.Sign g)) refl
+read-back (Call.Trace n) = read-written (bytes "trace") (numbersOf (Call.Trace n)) refl
 
 -- ---- one field at a time, as the field reader takes them
 -- the fields in what a field reader hands back: none where the line ended, and else those after the tab

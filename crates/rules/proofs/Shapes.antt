@@ -5,9 +5,9 @@ use mathlib.Core.List.{List, [], _∷_}
 use native.Mathlib.Omega.{arith}
 use lib.ListN.{length, getD}
 use lib.Seq.{take-append-seam, drop-append-seam}
-use Rattle.rules.specs.Tables.{Sound, depositShape, paymentShape, recordShape}
+use Rattle.rules.specs.Tables.{depositShape, paymentShape, recordShape}
 use Rattle.rules.specs.State.{State, Book, view, deskOf, laid, payments}
-use Rattle.rules.proofs.Laying.{rows-laid}
+use Rattle.rules.proofs.Laying.{Sound, rows-laid}
 
 -- four numbers are four numbers, and five are five
 four-back : (r : List ℕ) → length r ≡ 4 → getD r 0 0 ∷ getD r 1 0 ∷ getD r 2 0 ∷ getD r 3 0 ∷ [] ≡ r

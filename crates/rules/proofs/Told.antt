@@ -125,9 +125,9 @@ pub origin-once : (a b : Origin) → toldOrigin a ≡ toldOrigin b → a ≡ b
 origin-once a b e = sym (untold-origin a) ∙ ap untoldOrigin e ∙ untold-origin b
 
 -- ---- any two results that a call's contract allows coincide: the answer, the desk and every number of the tables
-pub outcome-once : (o : Outcome) (r r′ : Answered) (i i′ b b′ h h′ : List ℕ) → outcomeOf r i b h ≡ o → outcomeOf r′ i′ b′ h′ ≡ o
+pub outcome-once : (o : Outcome) {r r′ : Answered} {i i′ b b′ h h′ : List ℕ} → outcomeOf r i b h ≡ o → outcomeOf r′ i′ b′ h′ ≡ o
     → (r ≡ r′) × (i ≡ i′) × (b ≡ b′) × (h ≡ h′)
-outcome-once o r r′ i i′ b b′ h h′ p q =
+outcome-once o {r} {r′} {i} {i′} {b} {b′} {h} {h′} p q =
     let e : outcomeOf r i b h ≡ outcomeOf r′ i′ b′ h′ = p ∙ sym q in
     let a : r .answer ≡ r′ .answer = told-once (r .answer) (r′ .answer) (ap (λ (x : Outcome). x .reply) e) in
     let d : r .desk ≡ r′ .desk = ap (λ (x : Outcome). x .book .desk) e in (

@@ -1,13 +1,13 @@
 -- Document 01, "The calls": what each does where nothing is refused, part by part. What a call does to one part depends on the call and that part alone.
 use Prim.Native.Nat.{ℕ, _+_, _-_, _*_}
-use mathlib.Core.Bool.{Bool, _&&_, cond}
+use mathlib.Core.Bool.{Bool, true, false, _&&_, cond}
 use mathlib.Core.List.{List, [], _∷_, _++_}
 use lib.Dec.{eqb}
 use lib.ListN.{getD, set, take, drop}
 use Rattle.rules.specs.Types.{Nonce, Deposit, Payment, Record, ClaimFields, WithdrawalFields, Call}
 use Rattle.rules.specs.Limits.{isMember, isAsset, isDomain, assetCount}
 use Rattle.rules.specs.Lists.{indexOf}
-use Rattle.rules.specs.Tables.{Edit, edited}
+use Rattle.rules.specs.Tables.{Edit, edited, appended}
 use Rattle.rules.specs.State.{Outside, State}
 
 -- ---- balances: the eight of member 1, then those of member 2, and so on
@@ -130,6 +130,18 @@ outsideAfter (Call.Grant g) o = o
 outsideAfter (Call.Sign s) o = o
 outsideAfter (Call.Trace n) o = o
 
+-- the same as an edit of the outbox's rows, those in flight and then those that wait: a sent payment "keeps its outbox row"
+unfoldable pub outboxEdit : Call → Outside → Edit Payment
+outboxEdit (Call.Deposit d) o = Edit.keep
+outboxEdit (Call.Claim c) o = Edit.keep
+outboxEdit (Call.Transfer t) o = Edit.keep
+outboxEdit (Call.Withdraw w) o = Edit.add (paymentOf w (o .next))
+outboxEdit Call.Send o = Edit.keep
+outboxEdit (Call.Settle n) o = Edit.takeOut 0
+outboxEdit (Call.Grant g) o = Edit.keep
+outboxEdit (Call.Sign s) o = Edit.keep
+outboxEdit (Call.Trace n) o = Edit.keep
+
 -- ---- history: "Claim, transfer, withdraw and grant each append one history record"
 unfoldable pub recordsOf : Call → List Record
 recordsOf (Call.Deposit d) = []
@@ -152,3 +164,24 @@ effect c s =
       outside = outsideAfter c (s .outside);
       history = s .history ++ recordsOf c;
     }
+
+-- a sign request "changes nothing", nor does a trace
+unfoldable pub changesNothing : Call → Bool
+changesNothing (Call.Deposit d) = false
+changesNothing (Call.Claim c) = false
+changesNothing (Call.Transfer t) = false
+changesNothing (Call.Withdraw w) = false
+changesNothing Call.Send = false
+changesNothing (Call.Settle n) = false
+changesNothing (Call.Grant g) = false
+changesNothing (Call.Sign s) = true
+changesNothing (Call.Trace n) = true
+
+-- what a call does to the rows of each table: one edit each
+pub record Edits : Type 0 where
+  pub inbox : Edit Deposit
+  pub outbox : Edit Payment
+  pub history : Edit Record
+
+unfoldable pub edits : Call → State → Edits
+edits c s = record { inbox = inboxEdit c (s .inbox); outbox = outboxEdit c (s .outside); history = appended (recordsOf c) }

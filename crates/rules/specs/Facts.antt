@@ -10,11 +10,11 @@ use Rattle.rules.specs.Lists.{any}
 use Rattle.rules.specs.State.{State, Book, payments}
 use Rattle.rules.specs.Effects.{balance, holder, matches, total, oldest}
 use Rattle.rules.specs.History.{withdrawals, historyInFrame}
-use Rattle.rules.specs.Answer.{replyNumber}
+use Rattle.rules.specs.Answer.{answer}
 
--- a call that the book accepts: its reply number is 0
+-- a call that the book accepts: it is answered 0 Done
 pub record Accepted (b : Book) (c : Call) : Type 0 where
-  pub done : replyNumber b c ≡ 0
+  pub done : answer b c .reply .number ≡ 0
 
 -- a number that lies within its limits
 pub record Within (lo hi x : ℕ) : Type 0 where

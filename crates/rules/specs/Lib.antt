@@ -21,3 +21,4 @@ pub mod Session
 pub mod Readings
 pub mod FrameCases
 pub mod Facts
+pub mod Coincide

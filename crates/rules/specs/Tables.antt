@@ -1,6 +1,5 @@
 -- Rows in lent tables. A table is a flat list of numbers; its first rows are used, and the rest keep what they held.
-use Prim.Native.Nat.{ℕ, zero, suc, _+_, _-_, _*_, _≤_, _<_, max}
-use mathlib.Core.Path.{_≡_}
+use Prim.Native.Nat.{ℕ, zero, suc, _+_, _-_, _*_, max}
 use mathlib.Core.List.{List, [], _∷_, _++_}
 use lib.ListN.{length, getD, take, drop, set, replicate}
 use Rattle.rules.specs.Types.{Deposit, Payment, Record}
@@ -11,12 +10,6 @@ pub record Shape (A : Type 0) : Type 0 where
   pub width : ℕ
   pub flat : A → List ℕ
   pub row : List ℕ → A
-
--- what makes a shape sound: a row is as wide as the shape says, is read back as it was laid, and lies as it was read
-pub record Sound {A : Type 0} (shape : Shape A) : Type 0 where
-  pub wide : (a : A) → length (shape .flat a) ≡ shape .width
-  pub back : (a : A) → shape .row (shape .flat a) ≡ a
-  pub forth : (r : List ℕ) → length r ≡ shape .width → shape .flat (shape .row r) ≡ r
 
 -- the edits that a call makes to a table's rows: none, one at the end, one out, one changed
 pub data Edit (A : Type 0) : Type 0 where
@@ -44,6 +37,11 @@ module _ {A : Type 0} where
   edited (takeOut i) rows = take i rows ++ drop (suc i) rows
   edited (change i a) rows = set rows i a
 
+  -- the edit that adds these rows, of which there is one at most
+  unfoldable pub appended : List A → Edit A
+  appended [] = Edit.keep
+  appended (a ∷ rest) = Edit.add a
+
 -- ---- the same edits on the flat table
 -- a table with these numbers from a place on
 unfoldable pub splice : ℕ → List ℕ → List ℕ → List ℕ
@@ -59,13 +57,6 @@ editedTable shape Edit.keep n t = t
 editedTable shape (Edit.add a) n t = splice (n * shape .width) (shape .flat a) t
 editedTable shape (Edit.takeOut i) n t = withoutRow (shape .width) i n t
 editedTable shape (Edit.change i a) n t = splice (i * shape .width) (shape .flat a) t
-
--- an edit that a table of n used rows has room for
-unfoldable pub HasRoom : {A : Type 0} → Shape A → Edit A → ℕ → List ℕ → Type 0
-HasRoom shape Edit.keep n t = n * shape .width ≤ length t
-HasRoom shape (Edit.add a) n t = suc n * shape .width ≤ length t
-HasRoom shape (Edit.takeOut i) n t = (i < n) × (n * shape .width ≤ length t)
-HasRoom shape (Edit.change i a) n t = (i < n) × (n * shape .width ≤ length t)
 
 -- ---- the three kinds of row
 -- number, asset, amount, member

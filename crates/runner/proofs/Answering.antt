@@ -23,7 +23,7 @@ use Rattle.refusals.proofs.Said.{left}
 use Rattle.steps.specs.declared.step.Stepped.{Stepped}
 use Rattle.steps.specs.Step.{Replied, repliedOf, replied, steppedOf, LineAccepted}
 use Rattle.runner.specs.declared.running.Running.{Running}
-use Rattle.runner.specs.Machine.{answered, outcomeFor}
+use Rattle.runner.specs.Machine.{afterLine, outcomeFor}
 use Rattle.runner.specs.Running.{machineOf, Counted}
 
 -- a line whose reply is all that it comes to leaves the book as it was
@@ -48,7 +48,7 @@ module _ (run : Running) (i o h : List ℕ) (l : Line) (p : Page) (r : Stepped) 
   abbrev pub after : Running
   after = record { desk = r .desk; tally = t; line = run .line + 1 }
 
-  pub line-answered : machineOf after i′ o′ h′ [] ≡ answered (machineOf run i o h []) (outcomeFor (machineOf run i o h []) l)
+  pub line-answered : machineOf after i′ o′ h′ [] ≡ afterLine (machineOf run i o h []) (outcomeFor (machineOf run i o h []) l)
   line-answered =
       let b = ap (λ (x : Replied). x .book) e in
       let n = ap (λ (x : Replied). x .number) e in

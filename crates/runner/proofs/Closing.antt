@@ -14,21 +14,21 @@ use Rattle.replies.specs.Writing.{replyLine}
 use Rattle.pages.proofs.PageLaws.{put-then}
 use Rattle.replies.proofs.ReplyLaws.{reply-line}
 use Rattle.runner.specs.declared.running.Running.{Running}
-use Rattle.runner.specs.Machine.{outcomeFor, unfinished, unfinishedText, ended, closing}
+use Rattle.runner.specs.Machine.{outcomeFor, unfinished, unfinishedText, atEnd, closing}
 use Rattle.runner.specs.Running.{machineOf, malformed}
 
 module _ (run : Running) (i o h hold : List ℕ) (p : Page) where
   pub closed-stopped : (n : ℕ) → 100000 < run .line → {q : Page} → q ≡ put p (endText (run .tally)) → q ≡ put p (closing (machineOf run i o h (take n hold)))
-  unfolding closing ended
+  unfolding closing atEnd
   closed-stopped n s e = rw (lt-ltb 100000 (run .line) s) e
 
   pub closed-whole : (n : ℕ) → run .line ≤ 100000 → n ≡ 0 → {q : Page} → q ≡ put p (endText (run .tally)) → q ≡ put p (closing (machineOf run i o h (take n hold)))
-  unfolding closing ended unfinished unfinishedText
+  unfolding closing atEnd unfinished unfinishedText
   closed-whole n s z e = rw (z, le-ltb 100000 (run .line) s) e
 
 pub closed-unfinished : (run : Running) (i o h hold : List ℕ) (p : Page) (n : ℕ) → run .line ≤ 100000 → (n ≡ 0 → ⊥) → length hold ≡ 121 → {q r : Page} (t : Tally) → q ≡ put p (replyLine (run .line) (told malformed)) → t ≡ tallied (run .tally) (told malformed .number)
     → r ≡ put q (endText t) → r ≡ put p (closing (machineOf run i o h (take n hold)))
-unfolding closing ended unfinished unfinishedText answerLine told numberOf
+unfolding closing atEnd unfinished unfinishedText answerLine told numberOf
 closed-unfinished run i o h hold p zero s z l t e c f = absurd (z refl)
 closed-unfinished run i o h [] p (suc n) s z l t e c f = absurd (omega arith)
 closed-unfinished run i o h (x ∷ hold) p (suc n) s z l t e c f =

@@ -12,7 +12,7 @@ use Rattle.rules.specs.Limits.{mostLines}
 use Rattle.rules.specs.Lists.{joined}
 use Rattle.rules.specs.Lines.{lineFeed, readLine}
 use Rattle.rules.specs.Transcript.{InputLine, lastLine, linesFrom, inputLines, readInput, replyText, endText, played, transcript}
-use Rattle.runner.specs.Machine.{Machine, start, stopped, held-with, outcomeFor, answered, holding, fed, written, feeds, writes, unfinished, unfinishedText, ended, closing, writesAll}
+use Rattle.runner.specs.Machine.{Machine, start, stopped, held-with, outcomeFor, afterLine, holding, fed, written, feeds, writes, unfinished, unfinishedText, atEnd, closing, writesAll}
 
 -- ---- feeding in parts
 pub feeds-append : (m : Machine) (xs ys : List ℕ) → feeds m (xs ++ ys) ≡ feeds (feeds m xs) ys
@@ -112,7 +112,7 @@ unfolding written
 written-stopped m b s = rw s
 
 closing-stopped : (m : Machine) → stopped m ≡ true → closing m ≡ endText (m .tally)
-unfolding closing ended
+unfolding closing atEnd
 closing-stopped m s = rw s
 
 pub feeds-stopped : (m : Machine) → stopped m ≡ true → (input : List ℕ) → feeds m input ≡ m
@@ -137,7 +137,7 @@ one-fewer m s =
     omega arith
 
 -- ---- what a line feed and any other byte change
-pub line-fed : (m : Machine) (before : List ℕ) → Holds m before → stopped m ≡ false → fed m lineFeed ≡ answered m (outcomeFor m (readLine before))
+pub line-fed : (m : Machine) (before : List ℕ) → Holds m before → stopped m ≡ false → fed m lineFeed ≡ afterLine m (outcomeFor m (readLine before))
 unfolding fed
 line-fed m before h s = rw (s, h .held, held-reads before)
 
@@ -165,7 +165,7 @@ unfolding played
 ends-stopped m before input s = rw (writes-stopped m s input, feeds-stopped m s input, none-to-come m s) (closing-stopped m s)
 
 ends-end : (m : Machine) (before : List ℕ) → Holds m before → stopped m ≡ false → Ends m before []
-unfolding writes feeds closing ended linesFrom lastLine
+unfolding writes feeds closing atEnd linesFrom lastLine
 ends-end m before h s = rw (s, one-fewer m s) (go before (m .held) (h .held))
   where
     go : (before held : List ℕ) → held ≡ heldOf before

@@ -15,7 +15,7 @@ use Rattle.rules.specs.Transcript.{replyText}
 use Rattle.pages.specs.Writing.{Page, page, put}
 use Rattle.pages.proofs.PageLaws.{put-then, put-nothing}
 use Rattle.runner.specs.declared.running.Running.{Running}
-use Rattle.runner.specs.Machine.{Machine, held-with, outcomeFor, answered, fed, written, feeds, writes}
+use Rattle.runner.specs.Machine.{Machine, held-with, outcomeFor, afterLine, fed, written, feeds, writes}
 use Rattle.runner.specs.Running.{machineOf}
 use Rattle.runner.proofs.Cuts.{feeds-append, writes-append}
 use Rattle.runner.proofs.Room.{fits-more}
@@ -40,7 +40,7 @@ module _ (run : Running) (i o h held : List ℕ) (b : ℕ) where
   now-at = machineOf run i o h held
 
   -- a line feed
-  pub line-fed : run .line ≤ 100000 → b ≡ 10 → (l : Line) → l ≡ readLine held → (m : Machine) → m ≡ answered (machineOf run i o h []) (outcomeFor (machineOf run i o h []) l) → m ≡ fed now-at b
+  pub line-fed : run .line ≤ 100000 → b ≡ 10 → (l : Line) → l ≡ readLine held → (m : Machine) → m ≡ afterLine (machineOf run i o h []) (outcomeFor (machineOf run i o h []) l) → m ≡ fed now-at b
   unfolding fed
   line-fed s n l r m e = rw (le-ltb 100000 (run .line) s, eq-eqb b 10 n, ← r) e
 

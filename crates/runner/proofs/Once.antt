@@ -1,84 +1,90 @@
--- Any two results that a public function's contract allows coincide, and what a contract leaves open on purpose.
+-- Any two results that a public function's contract allows coincide (`Coincide` of `rules`), and what a contract leaves open on purpose.
 use Prim.Native.Nat.{ℕ}
-use mathlib.Core.Path.{_≡_, sym, ap, _∙_}
+use mathlib.Core.Path.{_≡_, refl, sym, ap, _∙_}
 use mathlib.Core.List.{List, []}
 use native.Mathlib.Omega.{arith}
 use lib.ListN.{length, take}
 use lib.Seq.{length-take-le}
-use Rattle.rules.specs.declared.calls.Line.{Line}
-use Rattle.rules.specs.Transcript.{replyText}
-use Rattle.pages.specs.Writing.{Page, page, put}
-use Rattle.pages.proofs.Once.{put-once}
-use Rattle.pages.proofs.PageLaws.{upto, bytes}
+use Rattle.rules.specs.Coincide.{Two, Coincide, AnyTwo}
+use Rattle.rules.proofs.Told.{once}
+use Rattle.rules.proofs.Coincide.{one, joined, from-each, both}
+use Rattle.pages.specs.Writing.{Page, page}
+use Rattle.pages.proofs.Once.{page-once}
 use Rattle.runner.specs.declared.running.Running.{Running}
 use Rattle.runner.specs.declared.feed.Feeding.{Feeding}
-use Rattle.runner.specs.Machine.{Machine, outcomeFor, answered, feeds, writes}
+use Rattle.runner.specs.Machine.{Machine}
 use Rattle.runner.specs.Running.{machineOf}
-use Rattle.runner.specs.Feeding.{fedMachine, Ready, Closes, Begun}
+use Rattle.runner.specs.Feeding.{Ready, Closes}
+use Rattle.runner.specs.Kept.{Kept, kept, RunSome}
+use Rattle.runner.proofs.running.answer_line as answer-line
+use Rattle.runner.proofs.feed.run_some as run-some
+use Rattle.runner.proofs.feed.close as close
+use Rattle.runner.proofs.start.start as start
 
 -- ---- answer_line: the desk, tally and line number, every number of the three tables, the place and every byte of the page
-module _ (m : Machine) {r r′ : Running} {i i′ o o′ h h′ held held′ : List ℕ} (e : machineOf r i o h held ≡ m) (f : machineOf r′ i′ o′ h′ held′ ≡ m) where
-  same : machineOf r i o h held ≡ machineOf r′ i′ o′ h′ held′
-  same = e ∙ sym f
-
-  pub machine-once : (r ≡ r′) × (i ≡ i′) × (o ≡ o′) × (h ≡ h′) × (held ≡ held′)
-  machine-once =
-      let d : r .desk ≡ r′ .desk = ap (λ (x : Machine). x .book .desk) same in
-      let t : r .tally ≡ r′ .tally = ap (λ (x : Machine). x .tally) same in
-      let n : r .line ≡ r′ .line = ap (λ (x : Machine). x .line) same in (
-        λ j. record { desk = d j; tally = t j; line = n j },
-        ap (λ (x : Machine). x .book .inbox) same,
-        ap (λ (x : Machine). x .book .outbox) same,
-        ap (λ (x : Machine). x .book .history) same,
-        ap (λ (x : Machine). x .held) same,
-      )
-
-pub answer-line-once : (m : Machine) (l : Line) (out : List ℕ) (at : ℕ) (r r′ : Running) (i i′ o o′ h h′ : List ℕ) (n n′ : ℕ) (p p′ : List ℕ)
-    → machineOf r i o h [] ≡ answered m (outcomeFor m l) → machineOf r′ i′ o′ h′ [] ≡ answered m (outcomeFor m l)
-    → page p n ≡ put (page out at) (replyText (m .line) (outcomeFor m l)) → page p′ n′ ≡ put (page out at) (replyText (m .line) (outcomeFor m l))
-    → (r ≡ r′) × (i ≡ i′) × (o ≡ o′) × (h ≡ h′) × (n ≡ n′) × (p ≡ p′)
-answer-line-once m l out at r r′ i i′ o o′ h h′ n n′ p p′ e f x y =
-    let g = machine-once (answered m (outcomeFor m l)) e f in
-    let q = put-once out at (replyText (m .line) (outcomeFor m l)) n n′ p p′ x y in
-    (g .0, g .1, g .2, g .3, q .0, q .1)
-
--- ---- run_some: all that is kept, every number of the three tables, every byte of the page, and of the held bytes those that belong to the line. Left open: the bytes of that buffer past them, on which no contract depends
-abbrev pub OneFed : Machine → Page → Type 0
-OneFed m left =
-    (r r′ : Feeding) (i i′ o o′ h h′ hold hold′ p p′ : List ℕ) → Ready r hold → Ready r′ hold′ → fedMachine r i o h hold ≡ m → fedMachine r′ i′ o′ h′ hold′ ≡ m
-    → page p (r .at) ≡ left → page p′ (r′ .at) ≡ left → (r ≡ r′) × (i ≡ i′) × (o ≡ o′) × (h ≡ h′) × (take (r .held) hold ≡ take (r .held) hold′) × (p ≡ p′)
-
-held-length : (r : Feeding) (hold : List ℕ) → Ready r hold → length (take (r .held) hold) ≡ r .held
-held-length r hold a = length-take-le (r .held) hold (omega (arith, a .held, a .size))
-
-fed-once : (m : Machine) (left : Page) → OneFed m left
-fed-once m left r r′ i i′ o o′ h h′ hold hold′ p p′ a a′ e f x y =
-    let g = machine-once m e f in
-    let w : r .running ≡ r′ .running = g .0 in
-    let n : r .held ≡ r′ .held = sym (held-length r hold a) ∙ ap (λ (s : List ℕ). length s) (g .4) ∙ held-length r′ hold′ a′ in
-    let k : r .at ≡ r′ .at = ap upto (x ∙ sym y) in (
-      λ j. record { running = w j; held = n j; at = k j },
-      g .1,
-      g .2,
-      g .3,
-      rw n (rw n at (g .4)),
-      ap bytes (x ∙ sym y),
+machine-once : (m : Machine) {r r′ : Running} {i i′ o o′ h h′ held held′ : List ℕ} → machineOf r i o h held ≡ m → machineOf r′ i′ o′ h′ held′ ≡ m
+    → (r ≡ r′) × (i ≡ i′) × (o ≡ o′) × (h ≡ h′) × (held ≡ held′)
+machine-once m {r} {r′} e f =
+    let d : r .desk ≡ r′ .desk = ap (λ (x : Machine). x .book .desk) (e ∙ sym f) in
+    let t : r .tally ≡ r′ .tally = ap (λ (x : Machine). x .tally) (e ∙ sym f) in
+    let n : r .line ≡ r′ .line = ap (λ (x : Machine). x .line) (e ∙ sym f) in (
+      λ j. record { desk = d j; tally = t j; line = n j },
+      ap (λ (x : Machine). x .book .inbox) (e ∙ sym f),
+      ap (λ (x : Machine). x .book .outbox) (e ∙ sym f),
+      ap (λ (x : Machine). x .book .history) (e ∙ sym f),
+      ap (λ (x : Machine). x .held) (e ∙ sym f),
     )
 
--- of run_some how far it came, `next`, is left open, but that it moves where there is room (Moves): it stops where the page has no room for the longest reply. Whatever it is, it fixes the rest, and the bytes from there on are fed by the next call
-pub run-some-once : (m : Machine) (before : Page) (chunk : List ℕ) (next : ℕ) → OneFed (feeds m (take next chunk)) (put before (writes m (take next chunk)))
-run-some-once m before chunk next = fed-once (feeds m (take next chunk)) (put before (writes m (take next chunk)))
+pub answer-line-once : Coincide answer-line.ended (λ M 𝓤. answer-line.clauses 𝓤)
+answer-line-once w x g =
+    from-each w (joined w (one w) (joined w (one w) (one w))) (joined w (one w) (joined w (one w) (one w))) (λ p q.
+    let m = machine-once _ (p .0) (q .0) in
+    let k = page-once _ (p .1 .0) (q .1 .0) in
+    (λ j. record { running = m .0 j; at = k .0 j }, λ j. (tt, (m .1 j, (m .2 j, (m .3 j, (k .1 j, (tt, (tt, tt)))))))))
+
+-- ---- run_some: all that is kept, every number of the three tables, every byte of the page, and of the held bytes those that belong to the line. Left open: the bytes of that buffer past them, on which no contract depends; and how far it came, `next`, but that it moves where there is room (Moves): it stops where the page has no room for the longest reply. Whatever `next` is, it fixes the rest, and the bytes from there on are fed by the next call
+pub record SameKept (k k′ : Kept) : Type 0 where
+  pub feeding : k .feeding ≡ k′ .feeding
+  pub inbox : k .inbox ≡ k′ .inbox
+  pub outbox : k .outbox ≡ k′ .outbox
+  pub history : k .history ≡ k′ .history
+  pub held : take (k .feeding .held) (k .hold) ≡ take (k′ .feeding .held) (k′ .hold)
+  pub out : k .out ≡ k′ .out
+
+abbrev pub OneRun : Two run-some.ended → Type 0
+OneRun x =
+    let l = x .left .1 in
+    let l′ = x .left′ .1 in
+    x .result .next ≡ x .result′ .next
+    → SameKept (kept (x .result .feeding) (l .0) (l .1 .0) (l .1 .1 .0) (l .1 .1 .1 .0) (l .1 .1 .1 .1 .0)) (kept (x .result′ .feeding) (l′ .0) (l′ .1 .0) (l′ .1 .1 .0) (l′ .1 .1 .1 .0) (l′ .1 .1 .1 .1 .0))
+
+held-length : (k : Kept) → Ready (k .feeding) (k .hold) → length (take (k .feeding .held) (k .hold)) ≡ k .feeding .held
+held-length k a = length-take-le (k .feeding .held) (k .hold) (omega (arith, a .held, a .size))
+
+fed-once : (b : Kept) (chunk : List ℕ) {n n′ : ℕ} {k k′ : Kept} → RunSome b chunk n k → RunSome b chunk n′ k′ → n ≡ n′ → SameKept k k′
+fed-once b chunk {k = k} {k′ = k′} p q e =
+    let m = machine-once _ (p .machine) (rw (← e) at (q .machine)) in
+    let g = page-once _ (p .page) (rw (← e) at (q .page)) in
+    let h : k .feeding .held ≡ k′ .feeding .held = sym (held-length k (p .ready)) ∙ ap (λ (s : List ℕ). length s) (m .4) ∙ held-length k′ (q .ready) in
+    record { feeding = λ j. record { running = m .0 j; held = h j; at = g .0 j }; inbox = m .1; outbox = m .2; history = m .3; held = m .4; out = g .1 }
+
+pub run-some-once : AnyTwo run-some.ended (λ M 𝓤. run-some.clauses 𝓤) OneRun
+run-some-once w x g = both w (fed-once _ _)
 
 -- ---- start and close
-pub start-once : (r r′ : Feeding) → Begun r → Begun r′ → r ≡ r′
-start-once r r′ a a′ =
-    let d = a .desk ∙ sym (a′ .desk) in
-    let t = a .tally ∙ sym (a′ .tally) in
-    let n = a .line ∙ sym (a′ .line) in
-    let k = a .held ∙ sym (a′ .held) in
-    let p = a .at ∙ sym (a′ .at) in
-    λ j. record { running = record { desk = d j; tally = t j; line = n j }; held = k j; at = p j }
+pub start-once : Coincide start.ended (λ M 𝓤. start.clauses 𝓤)
+start-once w x g =
+    both w (λ p q.
+    let d = once _ (p .desk) (q .desk) in
+    let t = once _ (p .tally) (q .tally) in
+    let n = once _ (p .line) (q .line) in
+    let h = once _ (p .held) (q .held) in
+    let a = once _ (p .at) (q .at) in
+    (λ j. record { running = record { desk = d j; tally = t j; line = n j }; held = h j; at = a j }, refl))
 
-pub close-once : (f : Feeding) (hold : List ℕ) (before : Page) (r r′ : ℕ) (p p′ : List ℕ) → Closes f hold before (page p r) → Closes f hold before (page p′ r′) → (r ≡ r′) × (p ≡ p′)
+closes-once : (f : Feeding) (hold : List ℕ) (before : Page) {r r′ : ℕ} {o o′ : List ℕ} → Closes f hold before (page o r) → Closes f hold before (page o′ r′) → (r ≡ r′) × (o ≡ o′)
 unfolding Closes
-close-once f hold before r r′ p p′ e g = (ap upto (e [] [] [] ∙ sym (g [] [] [])), ap bytes (e [] [] [] ∙ sym (g [] [] [])))
+closes-once f hold before p q = page-once _ (p [] [] []) (q [] [] [])
+
+pub close-once : Coincide close.ended (λ M 𝓤. close.clauses 𝓤)
+close-once w x g = both w (λ p q. let e = closes-once _ _ _ (p .page) (q .page) in (e .0, λ j. (tt, (tt, (e .1 j, tt)))))

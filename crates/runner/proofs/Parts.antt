@@ -17,7 +17,7 @@ use Rattle.pages.specs.Writing.{page, put}
 use Rattle.runner.specs.declared.running.Running.{Running}
 use Rattle.runner.specs.declared.feed.Feeding.{Feeding}
 use Rattle.runner.specs.declared.feed.Fed.{Fed}
-use Rattle.runner.specs.Machine.{Machine, held-with, holds, outcomeFor, answered, fed, written, feeds, writes}
+use Rattle.runner.specs.Machine.{Machine, held-with, holds, outcomeFor, afterLine, fed, written, feeds, writes}
 use Rattle.runner.specs.Running.{machineOf, Counted}
 use Rattle.runner.specs.Feeding.{fedMachine, Ready, noFeed, NextFeed}
 use Rattle.runner.specs.Kept.{kept, RunSome}
@@ -145,7 +145,7 @@ module _ (m : Machine) (chunk out₀ : List ℕ) (at₀ k : ℕ) (f : Feeding) (
   -- a line that ends in this read: its last part and the line feed are fed, and it is answered
   pub so-line : f .running .line ≤ 100000 → leb 45000 (length out - f .at) ≡ true → {part : List ℕ} → part ≡ drop k chunk → (n : ℕ) → NextFeed n part → n < length part
       → (l : Line) → l ≡ readLine (holds (take (f .held) hold) (take n part)) → (run : Running) (at : ℕ) (i′ o′ h′ hold′ out′ : List ℕ) → length hold′ ≡ length hold
-      → machineOf run i′ o′ h′ [] ≡ answered (machineOf (f .running) i o h []) (outcomeFor (machineOf (f .running) i o h []) l)
+      → machineOf run i′ o′ h′ [] ≡ afterLine (machineOf (f .running) i o h []) (outcomeFor (machineOf (f .running) i o h []) l)
       → page out′ at ≡ put (page out (f .at)) (replyText (f .running .line) (outcomeFor (machineOf (f .running) i o h []) l)) → Counted run
       → SoFar m chunk out₀ at₀ (k + (n + 1)) (record { running = run; held = 0; at = at }) i′ o′ h′ hold′ out′
   so-line few room {part} q n nf inside l rd run at i′ o′ h′ hold′ out′ z e g c =

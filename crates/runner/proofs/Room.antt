@@ -18,12 +18,12 @@ use Rattle.rules.specs.State.{Book, view, historyOf}
 use Rattle.rules.specs.Replies.{told, if-done}
 use Rattle.rules.specs.Answer.{Outcome, answer, replyNumber, replyWith, piecesOf, doneAnswer}
 use Rattle.rules.specs.Facts.{Accepted}
-use Rattle.rules.proofs.Accepts.{accepted-frame}
+use Rattle.rules.proofs.Accepts.{by-number, accepted-frame}
 use Rattle.lots.proofs.LotCounts.{pieces-count}
 use Rattle.lots.proofs.TraceJoin.{records-fit}
 use Rattle.rules.specs.declared.answers.Tally.{Tally}
 use Rattle.rules.specs.Transcript.{pieceValues, replyText, answerLine, endText}
-use Rattle.runner.specs.Machine.{Machine, stopped, outcomeFor, written, unfinishedText, ended, closing}
+use Rattle.runner.specs.Machine.{Machine, stopped, outcomeFor, written, unfinishedText, atEnd, closing}
 use Rattle.pages.specs.Writing.{page, put}
 use Rattle.pages.proofs.PageLaws.{put-whole}
 use Rattle.runner.specs.declared.feed.Feeding.{Feeding}
@@ -106,7 +106,7 @@ line-fits : (n : ℕ) (b : Book) (l : Line) → length (replyText n (answerLine 
 unfolding answerLine answer
 line-fits n b (Line.Reads c) =
     reply-length n (answer b c) (reply-few (replyNumber b c) (doneAnswer (view b) c))
-    (done-few (replyNumber b c) (piecesOf (view b) c) (λ e. pieces-few b c (record { done = e })))
+    (done-few (replyNumber b c) (piecesOf (view b) c) (λ e. pieces-few b c (by-number b c e)))
 line-fits n b Line.Malformed = reply-length n (answerLine b Line.Malformed) (values-few (Answer.Refused Refusal.Malformed)) (omega arith)
 
 -- no byte makes the machine write more
@@ -136,12 +136,12 @@ pub closing-fits : (m : Machine) → length (closing m) ≤ 45000
 unfolding closing
 closing-fits m = go (stopped m)
   where
-    go : (t : Bool) → length (cond t [] (unfinishedText (m .held) m) ++ endText (ended m .tally)) ≤ 45000
-    go true = let e = end-length (ended m .tally) in omega arith
+    go : (t : Bool) → length (cond t [] (unfinishedText (m .held) m) ++ endText (atEnd m .tally)) ≤ 45000
+    go true = let e = end-length (atEnd m .tally) in omega arith
     go false =
-        let e = end-length (ended m .tally) in
+        let e = end-length (atEnd m .tally) in
         let u = unfinished-fits (m .held) m in
-        let l = length-append (unfinishedText (m .held) m) (endText (ended m .tally)) in
+        let l = length-append (unfinishedText (m .held) m) (endText (atEnd m .tally)) in
         omega arith
 
 -- ---- a page on which all is written that was to be

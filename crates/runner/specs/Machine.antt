@@ -39,15 +39,15 @@ holds before (b ∷ bs) = holds (held-with before b) bs
 abbrev pub outcomeFor : Machine → Line → Outcome
 outcomeFor m l = answerLine (m .book) l
 
-abbrev pub answered : Machine → Outcome → Machine
-answered m o = record { book = o .book; tally = tallied (m .tally) (o .reply .number); line = m .line + 1; held = [] }
+abbrev pub afterLine : Machine → Outcome → Machine
+afterLine m o = record { book = o .book; tally = tallied (m .tally) (o .reply .number); line = m .line + 1; held = [] }
 
 abbrev pub holding : Machine → List ℕ → Machine
 holding m held = record { book = m .book; tally = m .tally; line = m .line; held = held }
 
 -- the machine after a byte, and what it writes for it
 unfoldable pub fed : Machine → ℕ → Machine
-fed m b = cond (stopped m) m (cond (eqb b lineFeed) (answered m (outcomeFor m (readLine (m .held)))) (holding m (held-with (m .held) b)))
+fed m b = cond (stopped m) m (cond (eqb b lineFeed) (afterLine m (outcomeFor m (readLine (m .held)))) (holding m (held-with (m .held) b)))
 
 unfoldable pub written : Machine → ℕ → List ℕ
 written m b = cond (stopped m) [] (cond (eqb b lineFeed) (replyText (m .line) (outcomeFor m (readLine (m .held)))) [])
@@ -64,18 +64,18 @@ writes m (b ∷ bs) = written m b ++ writes (fed m b) bs
 -- at the end of the input: an unfinished last line is Malformed, and last comes `end`
 unfoldable pub unfinished : List ℕ → Machine → Machine
 unfinished [] m = m
-unfinished (b ∷ bs) m = answered m (outcomeFor m Line.Malformed)
+unfinished (b ∷ bs) m = afterLine m (outcomeFor m Line.Malformed)
 
 unfoldable pub unfinishedText : List ℕ → Machine → List ℕ
 unfinishedText [] m = []
 unfinishedText (b ∷ bs) m = replyText (m .line) (outcomeFor m Line.Malformed)
 
 -- the machine at the very end, and what it writes there
-unfoldable pub ended : Machine → Machine
-ended m = cond (stopped m) m (unfinished (m .held) m)
+unfoldable pub atEnd : Machine → Machine
+atEnd m = cond (stopped m) m (unfinished (m .held) m)
 
 unfoldable pub closing : Machine → List ℕ
-closing m = cond (stopped m) [] (unfinishedText (m .held) m) ++ endText (ended m .tally)
+closing m = cond (stopped m) [] (unfinishedText (m .held) m) ++ endText (atEnd m .tally)
 
 -- all that is written for an input that comes in these reads, and at its end
 unfoldable pub writesAll : Machine → List (List ℕ) → List ℕ

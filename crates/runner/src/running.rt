@@ -10,7 +10,7 @@ ghost use Rattle.rules.specs.Answer.{bookOf};
 ghost use Rattle.rules.specs.Transcript.{replyText};
 ghost use Rattle.pages.specs.Writing.{page, put};
 ghost use Rattle.steps.specs.Step.{LineAccepted};
-ghost use Rattle.runner.specs.Machine.{outcomeFor, answered};
+ghost use Rattle.runner.specs.Machine.{outcomeFor, afterLine};
 ghost use Rattle.runner.specs.Running.{machineOf, Counted};
 
 // What is kept between lines, beside the lent tables: the desk, the tally, and the number of the line
@@ -41,7 +41,7 @@ pub fn answer_line(
     requires { ⌜ Counted run ⌝ }
     requires { ⌜ run .line ≤ 100000 ⌝ }
     requires { ⌜ LineAccepted (bookOf (run .desk) (now inbox) (now outbox) (now history)) l ⌝ }
-    ensures { λ r. ⌜ machineOf (r .running) (now (inbox .exit)) (now (outbox .exit)) (now (history .exit)) [] ≡ answered (machineOf run (now (inbox .entry)) (now (outbox .entry)) (now (history .entry)) []) (outcomeFor (machineOf run (now (inbox .entry)) (now (outbox .entry)) (now (history .entry)) []) l) ⌝ }
+    ensures { λ r. ⌜ machineOf (r .running) (now (inbox .exit)) (now (outbox .exit)) (now (history .exit)) [] ≡ afterLine (machineOf run (now (inbox .entry)) (now (outbox .entry)) (now (history .entry)) []) (outcomeFor (machineOf run (now (inbox .entry)) (now (outbox .entry)) (now (history .entry)) []) l) ⌝ }
     ensures { λ r. ⌜ page (now (out .exit)) (r .at) ≡ put (page (now (out .entry)) at) (replyText (run .line) (outcomeFor (machineOf run (now (inbox .entry)) (now (outbox .entry)) (now (history .entry)) []) l)) ⌝ }
     ensures { λ r. ⌜ Counted (r .running) ⌝ }
 {

@@ -1,50 +1,69 @@
--- Any two results that a public function's contract allows coincide.
+-- Any two results that a public function's contract allows coincide (`Coincide` of `rules`).
 use Prim.Native.Nat.{ℕ}
 use mathlib.Core.Path.{_≡_, sym, ap, _∙_}
 use mathlib.Core.List.{List}
-use Rattle.rules.specs.declared.calls.Call.{Call}
-use Rattle.rules.specs.declared.calls.Line.{Line}
 use Rattle.rules.specs.declared.answers.Tally.{Tally}
-use Rattle.rules.specs.State.{Book}
-use Rattle.rules.specs.Answer.{answer}
-use Rattle.rules.specs.Transcript.{answerLine, tallied}
-use Rattle.rules.proofs.Told.{once}
-use Rattle.pages.specs.Writing.{Page}
-use Rattle.pages.proofs.PageLaws.{upto, bytes}
+use Rattle.rules.specs.Coincide.{Coincide}
+use Rattle.rules.specs.Transcript.{tallied}
+use Rattle.rules.proofs.Coincide.{one, joined, from-each, both, value, first}
 use Rattle.steps.specs.declared.step.Stepped.{Stepped}
-use Rattle.steps.specs.Step.{Replied, repliedOf, replied}
+use Rattle.steps.specs.Step.{Replied, repliedOf}
+use Rattle.steps.proofs.step.step as step
+use Rattle.steps.proofs.step.line_step as line-step
+use Rattle.steps.proofs.traced.put_trace as put-trace
+use Rattle.steps.proofs.tally.raised as raised
+use Rattle.steps.proofs.tally.raise as raise
+use Rattle.steps.proofs.tally.one_more as one-more
+use Rattle.steps.proofs.counted.counted_step as counted-step
+use Rattle.steps.proofs.counted.tallied_step as tallied-step
 
--- ---- step and line_step: the reply's number, the desk, every number of the three tables, the place and every byte of the page
-abbrev pub OneStep : Replied → Type 0
-OneStep x =
-    (r r′ : Stepped) (i i′ o o′ h h′ out out′ : List ℕ) → repliedOf r i o h out ≡ x → repliedOf r′ i′ o′ h′ out′ ≡ x
+-- ---- step, line_step and put_trace: the reply's number, the desk, every number of the three tables, the place and every byte of the page
+stepped-once : (y : Replied) {r r′ : Stepped} {i i′ o o′ h h′ out out′ : List ℕ} → repliedOf r i o h out ≡ y → repliedOf r′ i′ o′ h′ out′ ≡ y
     → (r ≡ r′) × (i ≡ i′) × (o ≡ o′) × (h ≡ h′) × (out ≡ out′)
-
-stepped-once : (x : Replied) → OneStep x
-stepped-once x r r′ i i′ o o′ h h′ out out′ e f =
-    let s : repliedOf r i o h out ≡ repliedOf r′ i′ o′ h′ out′ = e ∙ sym f in
-    let n : r .number ≡ r′ .number = ap (λ (y : Replied). y .number) s in
-    let d : r .desk ≡ r′ .desk = ap (λ (y : Replied). y .book .desk) s in
-    let a : r .at ≡ r′ .at = ap (λ (y : Replied). y .text .upto) s in (
+stepped-once y {r} {r′} e f =
+    let n : r .number ≡ r′ .number = ap (λ (z : Replied). z .number) (e ∙ sym f) in
+    let d : r .desk ≡ r′ .desk = ap (λ (z : Replied). z .book .desk) (e ∙ sym f) in
+    let a : r .at ≡ r′ .at = ap (λ (z : Replied). z .text .upto) (e ∙ sym f) in (
       λ j. record { number = n j; desk = d j; at = a j },
-      ap (λ (y : Replied). y .book .inbox) s,
-      ap (λ (y : Replied). y .book .outbox) s,
-      ap (λ (y : Replied). y .book .history) s,
-      ap (λ (y : Replied). y .text .bytes) s,
+      ap (λ (z : Replied). z .book .inbox) (e ∙ sym f),
+      ap (λ (z : Replied). z .book .outbox) (e ∙ sym f),
+      ap (λ (z : Replied). z .book .history) (e ∙ sym f),
+      ap (λ (z : Replied). z .text .bytes) (e ∙ sym f),
     )
 
-pub step-once : (n : ℕ) (p : Page) (b : Book) (c : Call) → OneStep (replied n p (answer b c))
-step-once n p b c = stepped-once (replied n p (answer b c))
+pub step-once : Coincide step.ended (λ M 𝓤. step.clauses 𝓤)
+step-once w x g = both w (λ p q. let s = stepped-once _ p q in (s .0, λ j. (tt, (s .1 j, (s .2 j, (s .3 j, (s .4 j, (tt, (tt, (tt, tt))))))))))
 
-pub line-step-once : (n : ℕ) (p : Page) (b : Book) (l : Line) → OneStep (replied n p (answerLine b l))
-line-step-once n p b l = stepped-once (replied n p (answerLine b l))
+pub line-step-once : Coincide line-step.ended (λ M 𝓤. line-step.clauses 𝓤)
+line-step-once w x g = both w (λ p q. let s = stepped-once _ p q in (s .0, λ j. (tt, (s .1 j, (s .2 j, (s .3 j, (s .4 j, (tt, (tt, (tt, tt))))))))))
 
-pub raised-once : (t : Tally) (n : ℕ) {r r′ : Tally} → r ≡ tallied t n → r′ ≡ tallied t n → r ≡ r′
-raised-once t n = once (tallied t n)
+pub put-trace-once : Coincide put-trace.ended (λ M 𝓤. put-trace.clauses 𝓤)
+put-trace-once w x g = both w (λ p q. let s = stepped-once _ p q in (s .0, λ j. (tt, (tt, (tt, (tt, (s .4 j, (tt, (tt, (tt, tt))))))))))
+
+-- ---- the tally
+pub raised-once : Coincide raised.ended (λ M 𝓤. raised.clauses 𝓤)
+raised-once w x g = value w
+
+pub raise-once : Coincide raise.ended (λ M 𝓤. raise.clauses 𝓤)
+raise-once w x g = first w
+
+pub one-more-once : Coincide one-more.ended (λ M 𝓤. one-more.clauses 𝓤)
+one-more-once w x g = value w
 
 -- ---- counted_step and tallied_step: the same as line_step, and the tally
-pub counted-step-once : (n : ℕ) (p : Page) (b : Book) (l : Line) (t : Tally) (r r′ : Stepped) (i i′ o o′ h h′ out out′ : List ℕ) (u u′ : Tally) → repliedOf r i o h out ≡ replied n p (answerLine b l) → repliedOf r′ i′ o′ h′ out′ ≡ replied n p (answerLine b l)
-    → u ≡ tallied t (r .number) → u′ ≡ tallied t (r′ .number) → (r ≡ r′) × (i ≡ i′) × (o ≡ o′) × (h ≡ h′) × (out ≡ out′) × (u ≡ u′)
-counted-step-once n p b l t r r′ i i′ o o′ h h′ out out′ u u′ e f x y =
-    let s = line-step-once n p b l r r′ i i′ o o′ h h′ out out′ e f in
-    (s .0, s .1, s .2, s .3, s .4, x ∙ ap (λ (q : Stepped). tallied t (q .number)) (s .0) ∙ sym y)
+tally-once : (t : Tally) {r r′ : Stepped} {u u′ : Tally} → r ≡ r′ → u ≡ tallied t (r .number) → u′ ≡ tallied t (r′ .number) → u ≡ u′
+tally-once t e p q = p ∙ ap (λ (r : Stepped). tallied t (r .number)) e ∙ sym q
+
+pub counted-step-once : Coincide counted-step.ended (λ M 𝓤. counted-step.clauses 𝓤)
+counted-step-once w x g =
+    from-each w (joined w (one w) (one w)) (joined w (one w) (one w)) (λ p q.
+    let s = stepped-once _ (p .0) (q .0) in
+    let t = tally-once _ (s .0) (p .1) (q .1) in
+    (s .0, λ j. (tt, (s .1 j, (s .2 j, (s .3 j, (s .4 j, (tt, (tt, (t j, (tt, tt)))))))))))
+
+pub tallied-step-once : Coincide tallied-step.ended (λ M 𝓤. tallied-step.clauses 𝓤)
+tallied-step-once w x g =
+    from-each w (joined w (one w) (one w)) (joined w (one w) (one w)) (λ p q.
+    let s = stepped-once _ (p .0) (q .0) in
+    let t = tally-once _ (s .0) (p .1) (q .1) in
+    (λ j. record { stepped = s .0 j; tally = t j }, λ j. (tt, (s .1 j, (s .2 j, (s .3 j, (s .4 j, (tt, (tt, (tt, (tt, tt)))))))))))

@@ -2,7 +2,6 @@
 use Prim.Native.Nat.{ℕ, zero, suc}
 use mathlib.Core.Path.{_≡_, refl, sym, ap, _∙_}
 use mathlib.Core.List.{List, []}
-use native.Mathlib.Nat.{add-zero}
 use native.Mathlib.Omega.{arith}
 use lib.ListN.{length, getD, take}
 use Rattle.rules.specs.declared.rows.Nonce.{Nonce}
@@ -10,16 +9,13 @@ use Rattle.rules.specs.declared.rows.Lot.{Lot}
 use Rattle.rules.specs.declared.calls.Call.{Call}
 use Rattle.rules.specs.declared.answers.Answer.{Answer}
 use Rattle.rules.specs.declared.answers.Answered.{Answered}
-use Rattle.rules.specs.Tables.{edited, recordShape}
-use Rattle.rules.specs.State.{Book, view, laid, deskOf, historyOf}
+use Rattle.rules.specs.Tables.{recordShape}
+use Rattle.rules.specs.State.{Book, view, historyOf}
 use Rattle.rules.specs.Replies.{Reply, told, if-done}
-use Rattle.rules.specs.Effects.{effect, balancesAfter, holdersAfter, inboxEdit, outsideAfter, recordsOf}
-use Rattle.rules.specs.Lots.{pieces}
+use Rattle.rules.specs.Effects.{changesNothing}
 use Rattle.rules.specs.Answer.{answer, outcomeOf, replyNumber, replyWith, doneAnswer, piecesOf, traceAnswer, TraceOutcome}
 use Rattle.rules.proofs.Laying.{length-rows}
-use Rattle.rules.specs.Facts.{Accepted}
-use Rattle.rules.proofs.Accepts.{accepted-frame}
-use Rattle.desk.proofs.Books.{Framed, framed, inbox-kept, outbox-kept, history-kept, inbox-count, outbox-count, flight-count, history-count}
+use Rattle.rules.proofs.Books.{nothing-changed}
 use Rattle.history.specs.Tracing.{traceOutcomeOf}
 use Rattle.lots.proofs.TraceJoin.{Enough, trace-reply, trace-pieces}
 use Rattle.pages.specs.Writing.{Page, page, put}
@@ -50,22 +46,6 @@ handed-traced (Answer.Traced m) zero ps t e f = let q : m ≡ length ps = ap (λ
 handed-traced (Answer.Traced m) (suc k) ps t e f = absurd (let z : _≡_ {A = ℕ} 1 0 = ap valueCount e in omega arith)
 handed-traced (Answer.Refused why) zero ps t e f = absurd (let z : _≡_ {A = ℕ} 0 1 = ap valueCount e in omega arith)
 handed-traced (Answer.Refused why) (suc k) ps t e f = refl
-
--- "Changes nothing.": what a done one lays is what was there
-trace-laid : (b : Book) (n : Nonce) → Framed b → laid (effect (Call.Trace n) (view b)) b ≡ b
-unfolding laid deskOf effect balancesAfter holdersAfter inboxEdit edited outsideAfter recordsOf view
-trace-laid b n f =
-    rw (inbox-kept b f, outbox-kept b f, history-kept b f, inbox-count b f, outbox-count b f, flight-count b f, history-count b f [], add-zero)
-
-trace-book : (b : Book) (n : Nonce) → b ≡ answer b (Call.Trace n) .book
-unfolding answer
-trace-book b n = go (replyNumber b (Call.Trace n)) refl
-  where
-    go : (k : ℕ) → replyNumber b (Call.Trace n) ≡ k → b ≡ if-done k (laid (effect (Call.Trace n) (view b)) b) b
-    go zero e =
-        let y : Accepted b (Call.Trace n) = record { done = e } in
-        sym (trace-laid b n (framed b (accepted-frame b (Call.Trace n) y)))
-    go (suc k) e = refl
 
 abbrev replyFound : TraceOutcome → Reply
 replyFound o = o .reply
@@ -98,4 +78,4 @@ module _ (b : Book) (work out : List Lot) (n : Nonce) (a : Answer) (work′ out�
   unfolding answerText
   trace-replied k p q m c f =
       rw (f, c, reply-is, pieces-are, ← reply-text k (answer b (Call.Trace n)))
-      (ap (λ (x : Book). record { book = x; number = answer b (Call.Trace n) .reply .number; text = put p (replyText k (answer b (Call.Trace n))) }) (trace-book b n))
+      (ap (λ (x : Book). record { book = x; number = answer b (Call.Trace n) .reply .number; text = put p (replyText k (answer b (Call.Trace n))) }) (sym (nothing-changed b (Call.Trace n) (unfold changesNothing in refl))))

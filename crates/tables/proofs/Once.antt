@@ -1,15 +1,15 @@
--- Any two results that a public function's contract allows coincide: each contract is an equation.
-use Prim.Native.Nat.{ℕ}
-use mathlib.Core.Path.{_≡_}
-use mathlib.Core.List.{List}
-use Rattle.rules.proofs.Told.{once}
-use Rattle.tables.specs.Rows.{putAt, takenOut, placeOf}
+-- Any two results that a public function's contract allows coincide (`Coincide` of `rules`).
+use Rattle.rules.specs.Coincide.{Coincide}
+use Rattle.rules.proofs.Coincide.{value, first}
+use Rattle.tables.proofs.put_row as put-row
+use Rattle.tables.proofs.take_out as take-out
+use Rattle.tables.proofs.find_row as find-row
 
-pub put-row-once : (at : ℕ) (r t : List ℕ) {u u′ : List ℕ} → u ≡ putAt at r t → u′ ≡ putAt at r t → u ≡ u′
-put-row-once at r t = once (putAt at r t)
+pub put-row-once : Coincide put-row.ended (λ M 𝓤. put-row.clauses 𝓤)
+put-row-once w x g = first w
 
-pub take-out-once : (w i n : ℕ) (t : List ℕ) {u u′ : List ℕ} → u ≡ takenOut w i n t → u′ ≡ takenOut w i n t → u ≡ u′
-take-out-once w i n t = once (takenOut w i n t)
+pub take-out-once : Coincide take-out.ended (λ M 𝓤. take-out.clauses 𝓤)
+take-out-once w x g = first w
 
-pub find-row-once : (r : List ℕ) (n : ℕ) (t : List ℕ) {k k′ : ℕ} → k ≡ placeOf r n t → k′ ≡ placeOf r n t → k ≡ k′
-find-row-once r n t = once (placeOf r n t)
+pub find-row-once : Coincide find-row.ended (λ M 𝓤. find-row.clauses 𝓤)
+find-row-once w x g = value w

@@ -10,6 +10,7 @@ use lib.ListN.{getD, take, drop}
 use lib.Seq.{drop-drop, getD-take, getD-drop}
 use Rattle.rules.specs.Lists.{indexOf}
 use Rattle.rules.specs.Tables.{Shape, rowsOf}
+use Rattle.tables.specs.Rows.{rowAt}
 
 -- each passes the test against what those before it left: the test is asked with what is carried, and then that moves on
 unfoldable pub passes : {A S : Type 0} → (S → A → Bool) → (S → A → S) → S → List A → Bool
@@ -17,10 +18,6 @@ passes test next s [] = true
 passes test next s (x ∷ xs) = test s x && passes test next (next s x) xs
 
 module _ {A : Type 0} (shape : Shape A) where
-  -- row i of a table
-  abbrev pub rowAt : ℕ → List ℕ → A
-  rowAt i t = shape .row (take (shape .width) (drop (i * shape .width) t))
-
   -- the rows from row i on
   abbrev pub rest : ℕ → ℕ → List ℕ → List A
   rest n i t = rowsOf shape (n - i) (drop (i * shape .width) t)
@@ -28,7 +25,7 @@ module _ {A : Type 0} (shape : Shape A) where
   pub rest-all : (n : ℕ) (t : List ℕ) → rest n 0 t ≡ rowsOf shape n t
   rest-all n t = rw (sub-zero, zero-mul)
 
-  pub rest-step : (n i : ℕ) (t : List ℕ) → i < n → rest n i t ≡ rowAt i t ∷ rest n (i + 1) t
+  pub rest-step : (n i : ℕ) (t : List ℕ) → i < n → rest n i t ≡ rowAt shape i t ∷ rest n (i + 1) t
   unfolding rowsOf
   rest-step n i t h =
       let e : n - i ≡ suc (n - (i + 1)) = omega arith in
@@ -42,11 +39,11 @@ module _ {A : Type 0} (shape : Shape A) where
 
   -- ---- a test that carries something from row to row
   module _ {S : Type 0} (test : S → A → Bool) (next : S → A → S) (n : ℕ) (s : S) (i : ℕ) (t : List ℕ) where
-    pub passes-fails : i < n → test s (rowAt i t) ≡ false → passes test next s (rest n i t) ≡ false
+    pub passes-fails : i < n → test s (rowAt shape i t) ≡ false → passes test next s (rest n i t) ≡ false
     unfolding passes
     passes-fails h e = rw (rest-step n i t h, e)
 
-    pub passes-goes : i < n → test s (rowAt i t) ≡ true → passes test next s (rest n i t) ≡ passes test next (next s (rowAt i t)) (rest n (i + 1) t)
+    pub passes-goes : i < n → test s (rowAt shape i t) ≡ true → passes test next s (rest n i t) ≡ passes test next (next s (rowAt shape i t)) (rest n (i + 1) t)
     unfolding passes
     passes-goes h e = rw (rest-step n i t h, e)
 
@@ -56,11 +53,11 @@ module _ {A : Type 0} (shape : Shape A) where
 
   -- ---- the first row that passes a test
   module _ (p : A → Bool) (n i : ℕ) (t : List ℕ) where
-    pub index-here : i < n → p (rowAt i t) ≡ true → indexOf p (rest n i t) ≡ 0
+    pub index-here : i < n → p (rowAt shape i t) ≡ true → indexOf p (rest n i t) ≡ 0
     unfolding indexOf
     index-here h e = rw (rest-step n i t h, e)
 
-    pub index-later : i < n → p (rowAt i t) ≡ false → indexOf p (rest n i t) ≡ indexOf p (rest n (i + 1) t) + 1
+    pub index-later : i < n → p (rowAt shape i t) ≡ false → indexOf p (rest n i t) ≡ indexOf p (rest n (i + 1) t) + 1
     unfolding indexOf
     index-later h e = rw (rest-step n i t h, e) (sym (add-one (indexOf p (rest n (i + 1) t))))
 

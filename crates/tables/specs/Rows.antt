@@ -3,13 +3,17 @@ use Prim.Native.Nat.{ℕ, _+_, _*_}
 use mathlib.Core.Bool.{Bool, _&&_, cond}
 use mathlib.Core.List.{List}
 use lib.Dec.{leb, ltb}
-use lib.ListN.{length}
+use lib.ListN.{length, take, drop}
 use Rattle.rules.specs.Lists.{same, indexOf}
 use Rattle.rules.specs.Tables.{Shape, rowsOf, splice, withoutRow}
 
 -- rows of a width, as bare numbers
 abbrev pub bare : ℕ → Shape (List ℕ)
 bare w = record { width = w; flat = λ r. r; row = λ r. r }
+
+-- row i of a table of rows of this shape
+abbrev pub rowAt : {A : Type 0} → Shape A → ℕ → List ℕ → A
+rowAt shape i t = shape .row (take (shape .width) (drop (i * shape .width) t))
 
 -- so many rows lie within the table
 abbrev pub lieWithin : ℕ → ℕ → List ℕ → Bool

@@ -1,3 +1,4 @@
+pub mod Appending
 pub mod Passing
 pub mod Once
 pub mod Again

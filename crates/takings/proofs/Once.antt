@@ -1,28 +1,35 @@
--- Any two results that a public function's contract allows coincide, as far as the contract says them.
-use Prim.Native.Nat.{ℕ}
-use mathlib.Core.Path.{_≡_, sym, _∙_}
-use mathlib.Core.List.{List}
-use lib.ListN.{length, getD, set, take, replicate}
-use Rattle.rules.specs.declared.rows.Lot.{Lot}
-use Rattle.rules.specs.Lots.{noLot}
-use Rattle.takings.specs.declared.work.Taking.{Taking}
-use Rattle.takings.specs.Working.{TakesFrom, joinedOn}
+-- Any two results that a public function's contract allows coincide (`Coincide` of `rules`); of a taking, as far as its contract says them.
+use mathlib.Core.Path.{_≡_}
+use lib.ListN.{take}
+use Rattle.rules.specs.Coincide.{Two, Coincide, AnyTwo}
+use Rattle.rules.proofs.Told.{once}
+use Rattle.rules.proofs.Coincide.{both, value, first}
+use Rattle.takings.proofs.rows.lot_at as lot-at
+use Rattle.takings.proofs.rows.append as append
+use Rattle.takings.proofs.rows.clear as clear
+use Rattle.takings.proofs.work.take_from as take-from
+use Rattle.takings.proofs.work.join as join
 
 -- ---- a lent table of lots
-pub lot-at-once : (lots : List Lot) (i : ℕ) (r r′ : Lot) → r ≡ getD lots i noLot → r′ ≡ getD lots i noLot → r ≡ r′
-lot-at-once lots i r r′ p q = p ∙ sym q
+pub lot-at-once : Coincide lot-at.ended (λ M 𝓤. lot-at.clauses 𝓤)
+lot-at-once w x g = value w
 
-pub put-lot-once : (lots : List Lot) (i : ℕ) (l : Lot) (t t′ : List Lot) → t ≡ set lots i l → t′ ≡ set lots i l → t ≡ t′
-put-lot-once lots i l t t′ p q = p ∙ sym q
+pub append-once : Coincide append.ended (λ M 𝓤. append.clauses 𝓤)
+append-once w x g = first w
 
-pub clear-once : (lots t t′ : List Lot) → t ≡ replicate (length lots) noLot → t′ ≡ replicate (length lots) noLot → t ≡ t′
-clear-once lots t t′ p q = p ∙ sym q
+pub clear-once : Coincide clear.ended (λ M 𝓤. clear.clauses 𝓤)
+clear-once w x g = first w
 
 -- ---- a taking, and pieces that join the end
--- how many lots stay and how many were taken, and each of them
-pub take-from-once : (m a x used : ℕ) (work : List Lot) (r r′ : Taking) (w w′ h h′ : List Lot) → TakesFrom m a x used work r w h → TakesFrom m a x used work r′ w′ h′
-    → (r .kept ≡ r′ .kept) × (r .taken ≡ r′ .taken) × (take (r .kept) w ≡ take (r′ .kept) w′) × (take (r .taken) h ≡ take (r′ .taken) h′)
-take-from-once m a x used work r r′ w w′ h h′ p q = (p .kept ∙ sym (q .kept), p .taken ∙ sym (q .taken), p .stay ∙ sym (q .stay), p .wait ∙ sym (q .wait))
+-- how many lots stay and how many were taken, and each of them: in the work table, and in the held one
+abbrev pub OneTaking : Two take-from.ended → Type 0
+OneTaking x =
+    let r = x .result in
+    let r′ = x .result′ in
+    (r .kept ≡ r′ .kept) × (r .taken ≡ r′ .taken) × (take (r .kept) (x .left .0) ≡ take (r′ .kept) (x .left′ .0)) × (take (r .taken) (x .left .1 .1 .0) ≡ take (r′ .taken) (x .left′ .1 .1 .0))
 
-pub join-once : (m count used : ℕ) (held work t t′ : List Lot) → t ≡ joinedOn m count 0 used held work → t′ ≡ joinedOn m count 0 used held work → t ≡ t′
-join-once m count used held work t t′ p q = p ∙ sym q
+pub take-from-once : AnyTwo take-from.ended (λ M 𝓤. take-from.clauses 𝓤) OneTaking
+take-from-once w x g = both w (λ p q. (once _ (p .kept) (q .kept), once _ (p .taken) (q .taken), once _ (p .stay) (q .stay), once _ (p .wait) (q .wait)))
+
+pub join-once : Coincide join.ended (λ M 𝓤. join.clauses 𝓤)
+join-once w x g = first w

@@ -1,13 +1,13 @@
--- The loops over the lots do what the rules say: a taking takes what the rules take and leaves what they leave, the rows left close up, and what joins is what was held.
+-- The loops over the lots do what the rules say: a taking takes what the rules take and leaves what they leave, the rows left close up, and what is handed out is what was held.
 use Prim.Native.Nat.{ℕ, zero, suc, _+_, _-_, _≤_, _<_}
 use mathlib.Core.Path.{_≡_, refl, sym, ap, ap₂, _∙_}
 use mathlib.Core.Bool.{Bool, true, false, not, _&&_, cond}
 use mathlib.Core.List.{List, [], _∷_, _++_, map, append-assoc, append-nil}
-use native.Mathlib.Nat.{add-zero, sub-zero}
+use native.Mathlib.Nat.{sub-zero}
 use native.Mathlib.Numerals.{add-one}
 use native.Mathlib.Omega.{arith}
 use lib.Dec.{T as Holds, leb, ltb, eqb}
-use lib.ListN.{length, getD, set, take, drop, length-set, take-append-drop}
+use lib.ListN.{length, getD, set, take, drop, length-take}
 use lib.Seq.{drop-cons, take-suc, take-suc-set, take-add, drop-set-lt, length-take-le}
 use borrow.Author.Tests.{eqb-true, ltb-false}
 use Rattle.rules.specs.declared.rows.Lot.{Lot}
@@ -16,7 +16,8 @@ use Rattle.rules.specs.Answer.{inFront}
 use Rattle.rules.proofs.Tests.{both}
 use Rattle.takings.specs.declared.work.Taking.{Taking}
 use Rattle.takings.specs.declared.work.Cut.{Cut}
-use Rattle.takings.specs.Working.{takingOf, cutNone, cutWhole, cutInTwo, cutOf, CanTake, TakesFrom, CanClose, Closes, joinedOn}
+use Rattle.takings.specs.Working.{takingOf, cutNone, cutWhole, cutInTwo, cutOf, CanTake, TakesFrom, CanClose, ClosesUp, appended}
+use Rattle.takings.proofs.Appending.{append-set, appended-all}
 
 -- as many rows as can be taken of a table are there
 pub in-rows : (n : ℕ) (rows : List Lot) → length (take n rows) ≡ n → n ≤ length rows
@@ -152,9 +153,11 @@ module _ (m a x used : ℕ) (work₀ held₀ : List Lot) (can : CanTake used wor
   module _ (i : ℕ) (s : Taking) (work held : List Lot) (g : Going m a x used whole i s work held) (rows : length work ≡ length work₀) (scratch : length held ≡ length held₀) where
     -- one turn: the row read, asked and written
     pub going-on : i < used → eqb (s .due) 0 ≡ false → (l : Lot) → l ≡ getD work i noLot → (c : Cut) → c ≡ cutOf m a i l s
-        → (held′ work′ : List Lot) → held′ ≡ cond (c .takes) (set held (s .taken) (c .piece)) held → work′ ≡ cond (c .moves) (set work (s .kept) (c .rest)) work
+        → (held′ work′ : List Lot) → held′ ≡ cond (c .takes) (appended (s .taken) (c .piece ∷ []) held) held → work′ ≡ cond (c .moves) (appended (s .kept) (c .rest ∷ []) work) work
         → Going m a x used whole (i + 1) (c .next) work′ held′
-    going-on more due l e c f held′ work′ hs ws =
+    going-on more due l e c f held′ work′ held-by work-by =
+        let hs : held′ ≡ cond (c .takes) (set held (s .taken) (c .piece)) held = held-by ∙ ap (λ (y : List Lot). cond (c .takes) y held) (append-set (s .taken) held (c .piece)) in
+        let ws : work′ ≡ cond (c .moves) (set work (s .kept) (c .rest)) work = work-by ∙ ap (λ (y : List Lot). cond (c .moves) y work) (append-set (s .kept) work (c .rest)) in
         let law : CutLaw m a i l s c = rw f (cut-law m a i l s due) in
         let rest : List Lot = rowsLeft used (i + 1) work in
         let first : rowsLeft used i work ≡ l ∷ rest = next-row used i work more (omega (arith, rows, can .room)) ∙ ap (λ (y : Lot). y ∷ rest) (sym e) in
@@ -202,7 +205,7 @@ module _ (m a x used : ℕ) (work₀ held₀ : List Lot) (can : CanTake used wor
           go true false e f h = absurd h
 
       -- the rows left move up, and all is done
-      pub going-last : (after : List Lot) → length after ≡ length work → Closes (s .kept) i used work after → TakesFrom m a x used work₀ (takingOf (s .due) (s .kept + (used - i)) (s .taken)) after held
+      pub going-last : (after : List Lot) → length after ≡ length work → ClosesUp (s .kept) i used work after → TakesFrom m a x used work₀ (takingOf (s .due) (s .kept + (used - i)) (s .taken)) after held
       going-last after len c =
           let stays : take (s .kept + (used - i)) after ≡ left m a x whole = c .lots ∙ ap (λ (y : List Lot). take (s .kept) work ++ y) (sym rest-stays) ∙ g .stay in
           let waits : take (s .taken) held ≡ taken m a x whole = sym (append-nil (take (s .taken) held)) ∙ ap (λ (y : List Lot). take (s .taken) held ++ y) (sym rest-none) ∙ g .wait in
@@ -246,7 +249,7 @@ module _ (to from used : ℕ) (work₀ : List Lot) (can : CanClose to from used 
         }
 
     -- no row is left, or none has to move
-    pub closing-last : Holds (not (ltb i used && not (eqb k i))) → Closes to from used work₀ work
+    pub closing-last : Holds (not (ltb i used && not (eqb k i))) → ClosesUp to from used work₀ work
     closing-last over = record { lots = go (ltb i used) (eqb k i) refl refl over ∙ g .lots }
       where
         go : (p q : Bool) → ltb i used ≡ p → eqb k i ≡ q → Holds (not (p && not q)) → take (to + (used - from)) work ≡ take k work ++ rowsLeft used i work
@@ -259,53 +262,7 @@ module _ (to from used : ℕ) (work₀ : List Lot) (can : CanClose to from used 
             rw (all, same) (take-add i (used - i) work)
         go true false e f h = absurd h
 
--- ---- pieces that join
-module _ (m used : ℕ) (held : List Lot) where
-  pub joined-more : (n j : ℕ) (work : List Lot) → j < n → joinedOn m (n - j) j used held work ≡ joinedOn m (n - (j + 1)) (j + 1) used held (set work (used + j) (ofMember m (getD held j noLot)))
-  unfolding joinedOn
-  joined-more n j work h =
-      let e : n - j ≡ suc (n - (j + 1)) = omega arith in
-      rw e
-
-  pub joined-end : (n j : ℕ) (work : List Lot) → n ≤ j → joinedOn m (n - j) j used held work ≡ work
-  unfolding joinedOn
-  joined-end n j work h =
-      let e : n - j ≡ 0 = omega arith in
-      rw e
-
-  joined-parts : (n j : ℕ) (work : List Lot) → used + j + n ≤ length work → j + n ≤ length held
-      → take (used + j + n) (joinedOn m n j used held work) ≡ take (used + j) work ++ map (ofMember m) (take n (drop j held))
-  unfolding joinedOn
-  joined-parts zero j work w h = rw add-zero (sym (append-nil (take (used + j) work)))
-  joined-parts (suc n) j work w h =
-      let x : Lot = ofMember m (getD held j noLot) in
-      let e : used + j + suc n ≡ used + (j + 1) + n = omega arith in
-      let f : used + (j + 1) ≡ suc (used + j) = omega arith in
-      rw e
-      (joined-parts n (j + 1) (set work (used + j) x) (rw length-set (omega arith)) (omega arith)
-      ∙ rw (f, take-suc-set work (used + j) x (omega arith), append-assoc (take (used + j) work) (x ∷ []), drop-cons held j noLot (omega arith), add-one j))
-
-  -- the rows after them keep what they had
-  joined-after : (n j : ℕ) (work : List Lot) → drop (used + j + n) (joinedOn m n j used held work) ≡ drop (used + j + n) work
-  unfolding joinedOn
-  joined-after zero j work = refl
-  joined-after (suc n) j work =
-      let x : Lot = ofMember m (getD held j noLot) in
-      let e : used + j + suc n ≡ used + (j + 1) + n = omega arith in
-      rw e (joined-after n (j + 1) (set work (used + j) x) ∙ drop-set-lt (used + (j + 1) + n) work (used + j) x (omega arith))
-
-  pub joined-length : (n j : ℕ) (work : List Lot) → length (joinedOn m n j used held work) ≡ length work
-  unfolding joinedOn
-  joined-length zero j work = refl
-  joined-length (suc n) j work = joined-length n (j + 1) (set work (used + j) (ofMember m (getD held j noLot))) ∙ length-set work (used + j) (ofMember m (getD held j noLot))
-
-  pub joined-all : (n : ℕ) (work : List Lot) → used + n ≤ length work → n ≤ length held
-      → take (used + n) (joinedOn m n 0 used held work) ≡ take used work ++ map (ofMember m) (take n held)
-  joined-all n work w h =
-      let e : used + 0 ≡ used = omega arith in
-      let j = joined-parts n 0 work (omega arith) (omega arith) in
-      rw e at j
-
+-- ---- pieces that are handed out
 -- what is taken from a line is its owner's, so it joins a table of the owner's pieces as it is
 taken-own : (m a x : ℕ) (ls : List Lot) → map (ofMember m) (taken m a x ls) ≡ taken m a x ls
 unfolding taken
@@ -324,11 +281,7 @@ taken-own m a x (l ∷ ls) = go (eqb x 0) (inLine m a l) (leb (l .amount) x) ref
     go false true false f later whole = ap (λ (y : Lot). ofAmount x y ∷ []) (own f)
 
 -- pieces that join a table at its first row stand in front of it
-pub joined-in-front : (m a x : ℕ) (ls held out : List Lot) (n : ℕ) → take n held ≡ taken m a x ls → n ≤ length held → n ≤ length out → joinedOn m n 0 0 held out ≡ inFront (taken m a x ls) out
-joined-in-front m a x ls held out n e h o =
-    let count : length (taken m a x ls) ≡ n = ap length (sym e) ∙ length-take-le n held h in
-    let front : take (0 + n) (joinedOn m n 0 0 held out) ≡ taken m a x ls = joined-all m 0 held n out (omega arith) h ∙ ap (map (ofMember m)) e ∙ taken-own m a x ls in
-    let back : drop (0 + 0 + n) (joinedOn m n 0 0 held out) ≡ drop (0 + 0 + n) out = joined-after m 0 held n 0 out in
-    let one : 0 + n ≡ n = omega arith in
-    let two : 0 + 0 + n ≡ n = omega arith in
-    sym (take-append-drop n (joinedOn m n 0 0 held out)) ∙ ap₂ (λ (y z : List Lot). y ++ z) (rw one at front) (rw two at back ∙ ap (λ (k : ℕ). drop k out) (sym count))
+pub pieces-in-front : (m a x : ℕ) (ls held out : List Lot) (n : ℕ) → take n held ≡ taken m a x ls → n ≤ length out → appended 0 (map (ofMember m) (take n held)) out ≡ inFront (taken m a x ls) out
+pieces-in-front m a x ls held out n e h =
+    let all : length (taken m a x ls) ≤ n = rw (← e, length-take) (omega arith) in
+    rw (e, taken-own m a x ls) (appended-all 0 out (taken m a x ls) (omega (arith, all)))

@@ -1,12 +1,13 @@
 -- What the loops over a table of lots rest on and come to.
-use Prim.Native.Nat.{ℕ, zero, suc, _+_, _-_, _≤_}
+use Prim.Native.Nat.{ℕ, _+_, _-_, _≤_}
 use mathlib.Core.Path.{_≡_}
 use mathlib.Core.Bool.{Bool, true, false, not, cond}
 use mathlib.Core.List.{List, _++_}
 use lib.Dec.{leb, eqb}
-use lib.ListN.{length, getD, set, take, drop}
+use lib.ListN.{length, take, drop}
 use Rattle.rules.specs.declared.rows.Lot.{Lot}
-use Rattle.rules.specs.Lots.{noLot, inLine, ofAmount, ofMember, taken, left}
+use Rattle.rules.specs.Lots.{inLine, ofAmount, taken, left}
+use Rattle.rules.specs.Answer.{inFront}
 use Rattle.takings.specs.declared.work.Taking.{Taking}
 use Rattle.takings.specs.declared.work.Cut.{Cut}
 
@@ -50,10 +51,9 @@ pub record CanClose (to from used : ℕ) (work : List Lot) : Type 0 where
   pub room : used ≤ length work
 
 -- the used rows after the gap stand behind those before it
-pub record Closes (to from used : ℕ) (work after : List Lot) : Type 0 where
+pub record ClosesUp (to from used : ℕ) (work after : List Lot) : Type 0 where
   pub lots : take (to + (used - from)) after ≡ take to work ++ take (used - from) (drop from work)
 
--- ---- joining: n held pieces from piece j on, each with its new owner, after the used rows
-unfoldable pub joinedOn : ℕ → ℕ → ℕ → ℕ → List Lot → List Lot → List Lot
-joinedOn m zero j used held work = work
-joinedOn m (suc n) j used held work = joinedOn m n (j + 1) used held (set work (used + j) (ofMember m (getD held j noLot)))
+-- ---- lots that join the end: after the used rows, in this order. Every other row keeps what it had, and a lot for which there is no row is not written
+unfoldable pub appended : ℕ → List Lot → List Lot → List Lot
+appended used ls t = take (length t) (inFront (take used t ++ ls) t)

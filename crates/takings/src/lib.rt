@@ -1,3 +1,3 @@
-// Lent tables of lots: a lot read or written, a taking from the front of a line, and pieces that join the end.
+// Lent tables of lots: lots that join the end, a taking from the front of a line, and a table cleared.
 pub mod rows;
 pub mod work;

@@ -1,10 +1,12 @@
-// A lent table of lots, a lot a row: one lot read, one written, all cleared. Reading and writing are
-// total: past the end they are what the list functions are, so that no caller owes an index.
+// A lent table of lots, a lot a row: one lot read, one that joins the end, all cleared. They are total: past the
+// end a lot reads as zeros and none is written, so that no caller owes an index.
 use rules::rows::DepositNumber;
 use rules::rows::Lot;
 ghost use mathlib.Core.Path.{_≡_};
-ghost use lib.ListN.{length, getD, set, replicate};
+ghost use mathlib.Core.List.{[], _∷_};
+ghost use lib.ListN.{length, getD, replicate};
 ghost use Rattle.rules.specs.Lots.{noLot};
+ghost use Rattle.takings.specs.Working.{appended};
 
 // The lot in row i; past the end none, so zeros.
 pub fn lot_at(lots: &[Lot], i: usize) -> Lot
@@ -22,16 +24,16 @@ pub fn lot_at(lots: &[Lot], i: usize) -> Lot
     }
 }
 
-// Writes the lot into row i, if there is one.
-pub fn put_lot(lots: &mut [Lot], i: usize, l: Lot)
-    ensures { λ _. ⌜ now (lots .exit) ≡ set (now (lots .entry)) i l ⌝ }
+// A lot joins the end: it stands after the used lots, if the table has a row there.
+pub fn append(lots: &mut [Lot], used: usize, l: Lot)
+    ensures { λ _. ⌜ now (lots .exit) ≡ appended used (l ∷ []) (now (lots .entry)) ⌝ }
 {
-    if i < lots.len() {
-        lots[i] = l;
+    if used < lots.len() {
+        lots[used] = l;
     }
 }
 
-// Every row of the table becomes zeros.
+// Every row of the table becomes zeros, one after the other.
 pub fn clear(lots: &mut [Lot])
     ensures { λ _. ⌜ now (lots .exit) ≡ replicate (length (now (lots .entry))) noLot ⌝ }
 {
@@ -43,7 +45,7 @@ pub fn clear(lots: &mut [Lot])
     };
     let mut i: usize = 0;
     while i < lots.len() {
-        put_lot(lots, i, none);
+        append(lots, i, none);
         i += 1;
     }
 }

@@ -1,13 +1,15 @@
 // A taking from a line, and pieces that join the end. The loops only read a row, ask what becomes of
-// it, and write.
+// it, and append.
+use crate::rows::append;
 use crate::rows::lot_at;
-use crate::rows::put_lot;
 use rules::rows::Lot;
 ghost use mathlib.Core.Path.{_≡_};
 ghost use mathlib.Core.Bool.{cond};
-ghost use Prim.Native.Nat.{_+_, _≤_, _<_};
-ghost use lib.ListN.{set};
-ghost use Rattle.takings.specs.Working.{cutOf, cutWhole, cutInTwo, CanTake, TakesFrom, CanClose, Closes, joinedOn};
+ghost use mathlib.Core.List.{[], _∷_, map};
+ghost use Prim.Native.Nat.{_≤_, _<_};
+ghost use lib.ListN.{take};
+ghost use Rattle.rules.specs.Lots.{ofMember};
+ghost use Rattle.takings.specs.Working.{cutOf, cutWhole, cutInTwo, CanTake, TakesFrom, CanClose, ClosesUp, appended};
 
 // How far a taking from a line is: what is still due, how many rows stay so far, and how many pieces
 // were taken.
@@ -122,8 +124,8 @@ pub fn take_from(
     while (i < used) & (s.due != 0) {
         let l = lot_at(work, i);
         let c = cut_lot(l, i, member, asset, s);
-        put_lot_if(c.takes, held, s.taken, c.piece);
-        put_lot_if(c.moves, work, s.kept, c.rest);
+        append_if(c.takes, held, s.taken, c.piece);
+        append_if(c.moves, work, s.kept, c.rest);
         s = c.next;
         i += 1;
     }
@@ -135,41 +137,43 @@ pub fn take_from(
     }
 }
 
-// Writes the lot into row i, if it has to be written.
-pub(crate) fn put_lot_if(really: bool, lots: &mut [Lot], i: usize, l: Lot)
-    ensures { λ _. ⌜ now (lots .exit) ≡ cond really (set (now (lots .entry)) i l) (now (lots .entry)) ⌝ }
+// A lot joins the end, if it has to be written.
+pub(crate) fn append_if(really: bool, lots: &mut [Lot], used: usize, l: Lot)
+    ensures { λ _. ⌜ now (lots .exit) ≡ cond really (appended used (l ∷ []) (now (lots .entry))) (now (lots .entry)) ⌝ }
 {
     if !really {
         return;
     }
-    put_lot(lots, i, l);
+    append(lots, used, l);
 }
 
 // The rows from row `from` on move up to row `to`; where these are one row, none has to move.
 pub(crate) fn close_up(work: &mut [Lot], to: usize, from: usize, used: usize)
     requires { ⌜ CanClose to from used (now work) ⌝ }
-    ensures { λ _. ⌜ Closes to from used (now (work .entry)) (now (work .exit)) ⌝ }
+    ensures { λ _. ⌜ ClosesUp to from used (now (work .entry)) (now (work .exit)) ⌝ }
 {
     let mut k = to;
     let mut i = from;
     while (i < used) & (k != i) {
         let l = lot_at(work, i);
-        put_lot(work, k, l);
+        append(work, k, l);
         k += 1;
         i += 1;
     }
 }
 
-// "the pieces join the receiver's line in the order taken"
+// "the pieces join the receiver's line in the order taken": as many as are asked for and are there, each with its
+// new owner, while the table has rows.
 pub fn join(work: &mut [Lot], used: usize, held: &[Lot], count: usize, member: u64)
-    requires { ⌜ used + count ≤ 2048 ⌝ }
-    ensures { λ _. ⌜ now (work .exit) ≡ joinedOn member count 0 used (now (held .entry)) (now (work .entry)) ⌝ }
+    ensures { λ _. ⌜ now (work .exit) ≡ appended used (map (ofMember member) (take count (now (held .entry)))) (now (work .entry)) ⌝ }
 {
+    let mut end = used;
     let mut j: usize = 0;
-    while j < count {
+    while (j < count) & (j < held.len()) & (end < work.len()) {
         let mut l = lot_at(held, j);
         l.member = member;
-        put_lot(work, used + j, l);
+        append(work, end, l);
+        end += 1;
         j += 1;
     }
 }

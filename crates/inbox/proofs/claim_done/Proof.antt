@@ -6,7 +6,8 @@ use Rattle.rules.specs.State.{Book}
 use Rattle.rules.specs.Replies.{told}
 use Rattle.rules.specs.Answer.{bookOf, doneAnswer, piecesOf}
 use Rattle.rules.proofs.Accepts.{accepted-frame}
-use Rattle.desk.proofs.Books.{Framed, lays, framed}
+use Rattle.rules.proofs.Books.{Framed, framed}
+use Rattle.desk.proofs.Books.{lays}
 use Rattle.inbox.specs.After.{CanClaim}
 use Rattle.inbox.proofs.Laws.{can-claim, claim-place, claim-laid, place-is}
 use borrow.Author.Needs.{needs}

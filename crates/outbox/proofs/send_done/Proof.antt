@@ -8,7 +8,8 @@ use Rattle.rules.specs.State.{Book}
 use Rattle.rules.specs.Replies.{told}
 use Rattle.rules.specs.Answer.{bookOf, doneAnswer, piecesOf}
 use Rattle.rules.proofs.Accepts.{accepted-frame}
-use Rattle.desk.proofs.Books.{Framed, lays, framed}
+use Rattle.rules.proofs.Books.{Framed, framed}
+use Rattle.desk.proofs.Books.{lays}
 use Rattle.outbox.specs.After.{sentDesk}
 use Rattle.outbox.proofs.Laws.{can-send, waiting-row, send-laid}
 use Rattle.outbox.proofs.send_done.Statement.{statement}

@@ -80,7 +80,7 @@ same-length-5 c = c .before .before .before .before .before .before .before .out
 returns : tie.Need-returns Inv-loop μ-loop
 returns c =
     let r = c .before .before .before .before .before .before .before .before .before .before .before .before .before .before .before .before .run-some in
-    (record { counted = r .ensures .ready .counted; held = r .ensures .ready .held; size = r .ensures .ready .size }, (refl, λ e. absurd (false≢true e)))
+    (record { counted = r .ensures .ready .counted; held = r .ensures .ready .held; size = r .ensures .ready .size }, (refl, record { fed = λ e. absurd (false≢true e); more = λ e. absurd (false≢true e) }))
 
 loop-less : tie.Need-loop-less Inv-loop μ-loop
 loop-less c =
@@ -123,7 +123,7 @@ returns-2 c =
     let v = c .before .before .before .loop in
     let all : length (a .chunk .now) ≤ v .from = c .before .before .loop-test .left in
     let m : Machine = fedMachine (a .f) (a .inbox .now) (a .outbox .now) (a .history .now) (a .hold .now) in
-    (v .inv .1, (v .inv .2, λ e. v .inv .3 ∙ ap (feeds m) (take-all (v .from) (a .chunk .now) all)))
+    (v .inv .1, (v .inv .2, record { fed = λ e. v .inv .3 ∙ ap (feeds m) (take-all (v .from) (a .chunk .now) all); more = λ e. refl }))
 
 pub answer-read-spec : {M : Type 1} → statement M
 answer-read-spec =

@@ -34,13 +34,13 @@ read-once-requires : tie.Need-read-once-requires Inv-loop μ-loop
 read-once-requires c κs = (c .before .before .before .before .before .before .before .before .loop .inv .0, (c .before .before .before .before .before .before .before .before .loop .inv .1, omega (arith, c .before .before .before .before .before .before .before .before .loop .inv .7, c .before .before .before .before .before .before .before .before .before .before .before .before .before .before .before .before .pre .1)))
 
 sub-turns : tie.Need-sub-turns Inv-loop μ-loop
-sub-turns c = let more : 0 < c .before .before .before .before .before .before .before .before .before .before .before .before .before .before .before .before .before .before .before .before .before .loop .turns = ltb-true _ _ (c .before .before .before .before .before .before .before .before .before .before .before .before .before .before .before .before .before .before .before .if1 .taken) in omega arith
+sub-turns c = let more : 0 < c .before .before .before .before .before .before .before .before .before .before .before .before .before .before .before .before .before .before .before .before .before .before .loop .turns = ltb-true _ _ (c .before .before .before .before .before .before .before .before .before .before .before .before .before .before .before .before .before .before .before .before .if1 .taken) in omega arith
 
 loop-less : tie.Need-loop-less Inv-loop μ-loop
-loop-less c = let more : 0 < c .before .before .before .before .before .before .before .before .before .before .before .before .before .before .before .before .before .before .before .before .before .loop .turns = ltb-true _ _ (c .before .before .before .before .before .before .before .before .before .before .before .before .before .before .before .before .before .before .before .if1 .taken) in omega arith
+loop-less c = let more : 0 < c .before .before .before .before .before .before .before .before .before .before .before .before .before .before .before .before .before .before .before .before .before .before .loop .turns = ltb-true _ _ (c .before .before .before .before .before .before .before .before .before .before .before .before .before .before .before .before .before .before .before .before .if1 .taken) in omega arith
 
 loop-again : tie.Need-loop-again Inv-loop μ-loop
-loop-again c = (c .before .before .before .before .before .before .before .before .before .before .before .before .read-once .ensures .0, c .before .before .before .before .before .before .before .before .before .before .before .before .read-once .ensures .1, search needs, search needs, search needs, search needs, search needs, search needs)
+loop-again c = (c .before .before .before .before .before .before .before .before .before .before .before .before .before .read-once .ensures .0, c .before .before .before .before .before .before .before .before .before .before .before .before .before .read-once .ensures .1 .0, search needs, search needs, search needs, search needs, search needs, search needs)
 
 close-requires : tie.Need-close-requires Inv-loop μ-loop
 close-requires c κs = (c .before .before .before .before .loop .inv .0, omega (arith, c .before .before .before .before .loop .inv .1, c .before .before .before .before .loop .inv .7, c .before .before .before .before .before .before .before .before .before .before .before .before .pre .1))

@@ -51,11 +51,11 @@ use Rattle.records.proofs.KindNumbers.{is-claim, is-transfer, is-withdrawal, is
 use Rattle.replays.proofs.Replaying.{can-take, few-after, replays-claim, replays-transfer, replays-withdrawal, replays-grant, replays-other}
 use Rattle.takings.proofs.Locals.{local, part, slice-at}
 use Rattle.takings.proofs.Values.{R, machOf, number-is, lot-is, Records, machR, at-list, sv, places}
-use Rattle.takings.proofs.LotCalls.{PutLot, puts-lot}
+use Rattle.takings.proofs.LotCalls.{Append, appends}
 use Rattle.takings.proofs.TakingCalls.{TakeFrom, takes-from, Join, joins}
-use Rattle.takings.proofs.rows.put_lot.Symbol as put-lot-def
-use Rattle.takings.proofs.rows.put_lot.Symbol.{name as #put-lot}
-use Rattle.takings.proofs.rows.put_lot.Met as put-lot-thm
+use Rattle.takings.proofs.rows.append.Symbol as append-def
+use Rattle.takings.proofs.rows.append.Symbol.{name as #append}
+use Rattle.takings.proofs.rows.append.Met as append-thm
 use Rattle.takings.proofs.work.take_from.Symbol as take-from-def
 use Rattle.takings.proofs.work.take_from.Symbol.{name as #take-from}
 use Rattle.takings.proofs.work.take_from.Met as take-from-thm
@@ -77,9 +77,6 @@ stayed = (stay-slice (0 ∷ []) tt (plain (λ _. T.the-row)), (stay-none (λ _. 
 -- ---- numbers
 one-more : {used : ℕ} → used < 1024 → used + 1 < 2 ^ 64
 one-more l = omega arith
-
-both-few : (kept taken : ℕ) {used : ℕ} → kept + taken ≤ used + 1 → used < 1024 → kept + taken ≤ 2048
-both-few kept taken l h = omega arith
 
 both-fit : (kept taken : ℕ) {used : ℕ} → kept + taken ≤ used + 1 → used < 1024 → kept + taken < 2 ^ 64
 both-fit kept taken l h = omega arith
@@ -115,7 +112,7 @@ module _ {M : Type 1} (𝓤 : URA M) (H : Heap 𝓤) (A : Atoms 𝓤) (W : Given
       owned ! usize (Is usize) (uint-makes 𝓤 H A W w64) used _ (refl, isused) $ fjoin ! $ move ! (1 ∷ 0 ∷ []) $ fjoin ! $ frame ! $
       owned ! usize (Is usize) (uint-makes 𝓤 H A W w64) r _ (refl, isr) $ done !
 
-  module _ (𝓣 : Tables 𝓤 H) (known-put : Triple 𝓤 (𝓣 .C #put-lot) (PutLot 𝓤 H A mem run)) (known-take : Triple 𝓤 (𝓣 .C #take-from) (TakeFrom 𝓤 H A mem run)) (known-join : Triple 𝓤 (𝓣 .C #join) (Join 𝓤 H A mem run)) where
+  module _ (𝓣 : Tables 𝓤 H) (known-append : Triple 𝓤 (𝓣 .C #append) (Append 𝓤 H A mem run)) (known-take : Triple 𝓤 (𝓣 .C #take-from) (TakeFrom 𝓤 H A mem run)) (known-join : Triple 𝓤 (𝓣 .C #join) (Join 𝓤 H A mem run)) where
     walk : Room R nwork → used < 2 ^ 64 → Room R nheld → Is Records rec (machR rec ∷ []) → CanReplay used works helds → ent 𝓤 (onEntry 𝓤 H A f.signature (κwork, (κheld, tt)) (qwork, (qheld, tt)) a at) (WpFn 𝓤 H (𝓣 .C) (𝓣 .Λ) code.function (sv bwork owork nwork ∷ vint w64 used ∷ sv bheld oheld nheld ∷ machR rec ∷ []) Post)
     walk roomwork isused roomheld isrec req =
         qed W ((‵ (flft κwork qwork) ⊛ (‵ (flft κheld qheld) ⊛ ‵ ftrue)) ∷ ‵ (owns (MutSlice (named 0) κwork R ∷ usize ∷ MutSlice (named 1) κheld R ∷ Records ∷ []) a at) ∷ []) ∵
@@ -135,7 +132,7 @@ module _ {M : Type 1} (𝓤 : URA M) (H : Heap 𝓤) (A : Atoms 𝓤) (W : Given
               assigns ! (agg ! (and-then ! (part ! 48 3 refl refl refl) (and-then ! (part ! 48 1 refl refl refl) (and-then ! (local ! 44 refl) (and-then ! (part ! 48 2 refl refl refl) (no-more !)))))) (from ! (stop !)) (init ! 42 refl (LL.lawful T.the-type T′.the-laws 𝓤 H A W .typed (lotOf rec) _ (claimed-is rec isrec) .0)) $
               assigns ! (slice-at ! 54 refl refl refl) (from ! (stop !)) (init ! 32 refl (tt, tt)) $
               assigns ! (agg ! (and-then ! (local ! 32 refl) (and-then ! (part ! 54 1 refl refl refl) (no-more !)))) (from ! (stop !)) (init ! 30 refl (tt, (tt, (record { fits = roomwork .0 }, tt)))) $
-              puts-lot ! bwork owork nwork works used (lotOf rec) mem run 𝓣 known-put refl roomwork isused (claimed-is rec isrec) (λ ν δ. (and-then ! (local ! 30 refl) (and-then ! (local ! 52 refl) (and-then ! (local ! 42 refl) (no-more !))))) (λ w′ same e.
+              appends ! bwork owork nwork works used (lotOf rec) mem run 𝓣 known-append refl roomwork isused (claimed-is rec isrec) (λ ν δ. (and-then ! (local ! 30 refl) (and-then ! (local ! 52 refl) (and-then ! (local ! 42 refl) (no-more !))))) (λ w′ same e.
               land ! (from ! (stop !)) (init ! 34 refl (tt, tt)) $
               assigns-last ! (bin ! (local ! 52 refl) (lit ! tt) (record { fits = one-more (req .few) })) (from ! (stop !)) (init ! 36 refl (tt, record { fits = one-more (req .few) })) $
               exec ! (𝓣 .C) (𝓣 .Λ) (places codeMir.locals (l₀ ∷ l₁ ∷ l₂ ∷ l₃ ∷ l₄ ∷ l₅ ∷ l₆ ∷ l₇ ∷ l₈ ∷ l₉ ∷ l₁₀ ∷ l₁₁ ∷ l₁₂ ∷ l₁₃ ∷ l₁₄ ∷ l₁₅ ∷ l₁₆ ∷ l₁₇ ∷ l₁₈ ∷ l₁₉ ∷ l₂₀ ∷ l₂₁ ∷ l₂₂ ∷ l₂₃ ∷ l₂₄ ∷ l₂₅ ∷ l₂₆ ∷ [])) codeMir.t-3 (atRet (places codeMir.locals (l₀ ∷ l₁ ∷ l₂ ∷ l₃ ∷ l₄ ∷ l₅ ∷ l₆ ∷ l₇ ∷ l₈ ∷ l₉ ∷ l₁₀ ∷ l₁₁ ∷ l₁₂ ∷ l₁₃ ∷ l₁₄ ∷ l₁₅ ∷ l₁₆ ∷ l₁₇ ∷ l₁₈ ∷ l₁₉ ∷ l₂₀ ∷ l₂₁ ∷ l₂₂ ∷ l₂₃ ∷ l₂₄ ∷ l₂₅ ∷ l₂₆ ∷ [])) Post) $
@@ -162,7 +159,7 @@ module _ {M : Type 1} (𝓤 : URA M) (H : Heap 𝓤) (A : Atoms 𝓤) (W : Given
                 assigns ! (agg ! (and-then ! (local ! 18 refl) (and-then ! (part ! 54 1 refl refl refl) (no-more !)))) (from ! (stop !)) (init ! 16 refl (tt, (tt, (record { fits = roomwork .0 }, tt)))) $
                 assigns ! (slice-at ! 50 refl refl refl) (from ! (stop !)) (init ! 14 refl (tt, tt)) $
                 assigns ! (agg ! (and-then ! (local ! 14 refl) (and-then ! (part ! 50 1 refl refl refl) (no-more !)))) (from ! (stop !)) (init ! 12 refl (tt, (tt, (record { fits = roomheld .0 }, tt)))) $
-                joins ! bwork owork nwork w′ bheld oheld nheld h′ (s .kept) (s .taken) (rec .second) mem run 𝓣 known-join samew roomwork sameh roomheld (of-s .1 .0 .1) (of-s .1 .1 .0 .1) (of-r .1 .1 .1 .1 .0 .1) (both-few (s .kept) (s .taken) few (req .few)) (λ ν δ ν′ δ′. (and-then ! (local ! 15 refl) (and-then ! (part ! 39 1 refl refl refl) (and-then ! (local ! 11 refl) (and-then ! (part ! 39 2 refl refl refl) (and-then ! (part ! 47 4 refl refl refl) (no-more !))))))) (λ w″ same g.
+                joins ! bwork owork nwork w′ bheld oheld nheld h′ (s .kept) (s .taken) (rec .second) mem run 𝓣 known-join samew roomwork sameh roomheld (of-s .1 .0 .1) (of-s .1 .1 .0 .1) (of-r .1 .1 .1 .1 .0 .1) (λ ν δ ν′ δ′. (and-then ! (local ! 15 refl) (and-then ! (part ! 39 1 refl refl refl) (and-then ! (local ! 11 refl) (and-then ! (part ! 39 2 refl refl refl) (and-then ! (part ! 47 4 refl refl refl) (no-more !))))))) (λ w″ same g.
                 land ! (from ! (stop !)) (init ! 20 refl (tt, tt)) $
                 assigns-last ! (bin ! (part ! 40 1 refl refl refl) (part ! 40 2 refl refl refl) (record { fits = both-fit (s .kept) (s .taken) few (req .few) })) (from ! (stop !)) (init ! 36 refl (tt, record { fits = both-fit (s .kept) (s .taken) few (req .few) })) $
                 exec ! (𝓣 .C) (𝓣 .Λ) (places codeMir.locals (l₀ ∷ l₁ ∷ l₂ ∷ l₃ ∷ l₄ ∷ l₅ ∷ l₆ ∷ l₇ ∷ l₈ ∷ l₉ ∷ l₁₀ ∷ l₁₁ ∷ l₁₂ ∷ l₁₃ ∷ l₁₄ ∷ l₁₅ ∷ l₁₆ ∷ l₁₇ ∷ l₁₈ ∷ l₁₉ ∷ l₂₀ ∷ l₂₁ ∷ l₂₂ ∷ l₂₃ ∷ l₂₄ ∷ l₂₅ ∷ l₂₆ ∷ [])) codeMir.t-3 (atRet (places codeMir.locals (l₀ ∷ l₁ ∷ l₂ ∷ l₃ ∷ l₄ ∷ l₅ ∷ l₆ ∷ l₇ ∷ l₈ ∷ l₉ ∷ l₁₀ ∷ l₁₁ ∷ l₁₂ ∷ l₁₃ ∷ l₁₄ ∷ l₁₅ ∷ l₁₆ ∷ l₁₇ ∷ l₁₈ ∷ l₁₉ ∷ l₂₀ ∷ l₂₁ ∷ l₂₂ ∷ l₂₃ ∷ l₂₄ ∷ l₂₅ ∷ l₂₆ ∷ [])) Post) $
@@ -232,11 +229,11 @@ module _ {M : Type 1} (𝓤 : URA M) (H : Heap 𝓤) (A : Atoms 𝓤) (W : Given
           ),
         ))))))))))))))))))))))))))))
 
-module _ {M : Type 1} (𝓤 : URA M) (H : Heap 𝓤) (A : Atoms 𝓤) (W : Given 𝓤 H A) (mem : Memory → SProp 𝓤) (run : Routine → Fun 𝓤) (𝓣 : Tables 𝓤 H) (known-put : Triple 𝓤 (𝓣 .C #put-lot) (PutLot 𝓤 H A mem run)) (known-take : Triple 𝓤 (𝓣 .C #take-from) (TakeFrom 𝓤 H A mem run)) (known-join : Triple 𝓤 (𝓣 .C #join) (Join 𝓤 H A mem run)) where
+module _ {M : Type 1} (𝓤 : URA M) (H : Heap 𝓤) (A : Atoms 𝓤) (W : Given 𝓤 H A) (mem : Memory → SProp 𝓤) (run : Routine → Fun 𝓤) (𝓣 : Tables 𝓤 H) (known-append : Triple 𝓤 (𝓣 .C #append) (Append 𝓤 H A mem run)) (known-take : Triple 𝓤 (𝓣 .C #take-from) (TakeFrom 𝓤 H A mem run)) (known-join : Triple 𝓤 (𝓣 .C #join) (Join 𝓤 H A mem run)) where
   replayed-walks : Walks 𝓤 H A f.ended stayed (WpFn 𝓤 H (𝓣 .C) (𝓣 .Λ) code.function) (f.clauses 𝓤 H A mem run)
   replayed-walks = walked 𝓤 H A f.ended stayed (f.clauses 𝓤 H A mem run) (WpFn 𝓤 H (𝓣 .C) (𝓣 .Λ) code.function) (λ κs. (slice-vals, (uint-vals w64, (slice-vals, (LL.vals Rc.the-type Rc′.the-laws, tt))))) (λ κs. (mut-slice-tells (named 0) (κs .0) T.the-row, (uint-tells w64, (mut-slice-tells (named 1) (κs .1 .0) T.the-row, (LL.tells Rc.the-type Rc′.the-laws, tt)))))
       (λ κs qs bounds a g are. needs 𝓤 (CanReplay (a .1 .0) (a .0 .now) (a .1 .1 .0 .now)) _
-      (walk 𝓤 H A W mem run (κs .0) (κs .1 .0) (qs .0) (qs .1 .0) (a .0 .ptr .0) (a .0 .ptr .1) (a .0 .name) (a .0 .now) (a .1 .0) (a .1 .1 .0 .ptr .0) (a .1 .1 .0 .ptr .1) (a .1 .1 .0 .name) (a .1 .1 .0 .now) (a .1 .1 .1 .0) 𝓣 known-put known-take known-join (are .0 .0 .1) (are .1 .0 .1) (are .1 .1 .0 .0 .1) (are .1 .1 .1 .0)))
+      (walk 𝓤 H A W mem run (κs .0) (κs .1 .0) (qs .0) (qs .1 .0) (a .0 .ptr .0) (a .0 .ptr .1) (a .0 .name) (a .0 .now) (a .1 .0) (a .1 .1 .0 .ptr .0) (a .1 .1 .0 .ptr .1) (a .1 .1 .0 .name) (a .1 .1 .0 .now) (a .1 .1 .1 .0) 𝓣 known-append known-take known-join (are .0 .0 .1) (are .1 .0 .1) (are .1 .1 .0 .0 .1) (are .1 .1 .1 .0)))
 
   replayed-meets : Meets 𝓤 H A f.signature (WpFn 𝓤 H (𝓣 .C) (𝓣 .Λ) code.function) (f.spec 𝓤 H A mem run)
   replayed-meets =
@@ -249,6 +246,6 @@ replayed-spec 𝓤 H 𝓜 𝓖 𝓡 =
     entered 𝓤 H (tripleOf 𝓤 H (𝓖 .A) f.signature (f.spec 𝓤 H (𝓖 .A) (𝓜 .mem) (𝓡 .run)))
     (tables 𝓤 H 𝓜 𝓡 code.env .C) (tables 𝓤 H 𝓜 𝓡 code.env .Λ) #replayed code.function (code.unfolded 𝓤 H 𝓜 𝓡)
     (replayed-meets 𝓤 H (𝓖 .A) (givenOf 𝓤 H 𝓜 𝓖) (𝓜 .mem) (𝓡 .run) (tablesOf 𝓤 H 𝓜 (tables 𝓤 H 𝓜 𝓡 code.env))
-    (cited 𝓤 H (PutLot 𝓤 H (𝓖 .A) (𝓜 .mem) (𝓡 .run)) 𝓜 𝓡 code.env #put-lot put-lot-def.routine code.calls-takings·rows·put-lot (put-lot-thm.met 𝓤 H 𝓜 𝓖 𝓡))
+    (cited 𝓤 H (Append 𝓤 H (𝓖 .A) (𝓜 .mem) (𝓡 .run)) 𝓜 𝓡 code.env #append append-def.routine code.calls-takings·rows·append (append-thm.met 𝓤 H 𝓜 𝓖 𝓡))
     (cited 𝓤 H (TakeFrom 𝓤 H (𝓖 .A) (𝓜 .mem) (𝓡 .run)) 𝓜 𝓡 code.env #take-from take-from-def.routine code.calls-takings·work·take-from (take-from-thm.met 𝓤 H 𝓜 𝓖 𝓡))
     (cited 𝓤 H (Join 𝓤 H (𝓖 .A) (𝓜 .mem) (𝓡 .run)) 𝓜 𝓡 code.env #join join-def.routine code.calls-takings·work·join (join-thm.met 𝓤 H 𝓜 𝓖 𝓡)))

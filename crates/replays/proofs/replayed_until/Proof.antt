@@ -1,7 +1,7 @@
 -- `replays::replayed_until` meets its contract: a walk of its MIR, by hand. A turn of the loop reads a record and replays it, each by a call (`ReplayCalls.antt`).
 -- Assumes nothing.
 use mathlib.Core.Path.{_≡_, refl, _∙_, subst}
-use Prim.Native.Nat.{ℕ, _<_, _≤_, _^_, _+_, _-_, _*_}
+use Prim.Native.Nat.{ℕ, _<_, _≤_, _^_, _+_, _-_}
 use native.Mathlib.Omega.{arith}
 use mathlib.Core.List.{List, [], _∷_}
 use lib.ListN.{length}
@@ -42,7 +42,7 @@ use Rattle.rules.specs.Tables.{recordShape}
 use Rattle.rules.proofs.rows.Lot as T
 use Rattle.rules.proofs.rows.Record as Rc
 use Rattle.rules.proofs.rows.Record.Laws as Rc′
-use Rattle.tables.proofs.Rest.{rowAt}
+use Rattle.tables.specs.Rows.{rowAt}
 use Rattle.replays.specs.Replaying.{Replays, CanReplayAll, ReplaysAll}
 use Rattle.replays.proofs.Payments.{replay-none, replay-more, can-replay}
 use Rattle.takings.proofs.Loop.{tests, below, next-fits, less, less-wf}
@@ -66,10 +66,6 @@ Arg = RefT (List ℕ) × (ℕ × (RefT (List Lot) × (RefT (List Lot) × Unit {0
 
 abbrev stayed : Stays (f.ended .signature .params) (f.ended .kept)
 stayed = (stay-none-slice (0 ∷ []) tt (plain (λ _. u64)) yes, (stay-none (λ _. usize) yes, (stay-slice (1 ∷ []) tt (plain (λ _. T.the-row)), (stay-slice (2 ∷ []) tt (plain (λ _. T.the-row)), tt))))
-
--- ---- numbers
-lies : {i n : ℕ} (size : ℕ) → n * 5 ≤ size → i < n → i * 5 + 5 ≤ size
-lies size l h = omega arith
 
 -- ---- the loop's state: the next record, how many lots there are, the rows of both tables, and the invariant: the lots are those after the records so far
 record St (rows scratch upto : ℕ) (history : List ℕ) : Type 0 where
@@ -146,7 +142,7 @@ module _ {M : Type 1} (𝓤 : URA M) (H : Heap 𝓤) (A : Atoms 𝓤) (W : Given
     I l₀ l₁ l₂ l₃ l₄ l₅ l₆ l₇ l₈ l₉ l₁₀ l₁₁ l₁₂ t =
         ‵ (ShrSlice (named 0) κhist u64 .own (at-list bhist ohist γhist hists) (sv bhist ohist nhist ∷ [])) ∷ ‵ (flft κhist qhist) ∷ ‵ (MutSlice (named 0) κwork R .own (at-list bwork owork γwork (t .ws)) (sv bwork owork nwork ∷ [])) ∷ ‵ (flft κwork qwork) ∷ ‵ (MutSlice (named 0) κheld R .own (at-list bheld oheld γheld (t .hs)) (sv bheld oheld nheld ∷ [])) ∷ ‵ (flft κheld qheld) ∷ (spare (sliceTy refm) l₁₂ (spare refm l₁₁ (spare (sliceTy refm) l₁₀ (spare refm l₉ (spare tyBool l₈ (spare Rc′.mir l₇ (cell word l₆ (vint w64 (t .i)) (cell word l₅ (vint w64 (t .used)) (cell (sliceTy (refmut 2)) l₄ (sv bheld oheld nheld) (cell (sliceTy (refmut 1)) l₃ (sv bwork owork nwork) (cell word l₂ (vint w64 upto) (cell (sliceTy (refnum 0)) l₁ (sv bhist ohist nhist) (spare word l₀ [])))))))))))))
 
-    walk : Room u64 nhist → upto < 2 ^ 64 → Room R nwork → Room R nheld → CanReplayAll upto hists works helds → ent 𝓤 (onEntry 𝓤 H A f.signature (κhist, (κwork, (κheld, tt))) (qhist, (qwork, (qheld, tt))) a at) (WpFn 𝓤 H (𝓣 .C) (𝓣 .Λ) code.function (sv bhist ohist nhist ∷ vint w64 upto ∷ sv bwork owork nwork ∷ sv bheld oheld nheld ∷ []) Post)
+    walk : Room u64 nhist → upto < 2 ^ 64 → Room R nwork → Room R nheld → CanReplayAll upto works helds → ent 𝓤 (onEntry 𝓤 H A f.signature (κhist, (κwork, (κheld, tt))) (qhist, (qwork, (qheld, tt))) a at) (WpFn 𝓤 H (𝓣 .C) (𝓣 .Λ) code.function (sv bhist ohist nhist ∷ vint w64 upto ∷ sv bwork owork nwork ∷ sv bheld oheld nheld ∷ []) Post)
     unfolding afterTurn
     walk roomhist isupto roomwork roomheld req =
         qed W ((‵ (flft κhist qhist) ⊛ (‵ (flft κwork qwork) ⊛ (‵ (flft κheld qheld) ⊛ ‵ ftrue))) ∷ ‵ (owns (ShrSlice (named 0) κhist u64 ∷ usize ∷ MutSlice (named 1) κwork R ∷ MutSlice (named 2) κheld R ∷ []) a at) ∷ []) ∵
@@ -163,7 +159,7 @@ module _ {M : Type 1} (𝓤 : URA M) (H : Heap 𝓤) (A : Atoms 𝓤) (W : Given
         assigns ! (bin ! (local ! 18 refl) (local ! 26 refl) tt) (from ! (stop !)) (init ! 14 refl (tt, tt)) $ tests ! (local ! 14 refl) (λ yes.
         let more : t .i < upto = ltb→lt (t .i) upto yes in
         -- the record is read
-        reads-record ! bhist ohist nhist hists (t .i) mem run 𝓣 known-record (below isupto more) (lies (length hists) (req .lie) more) (and-then ! (local ! 28 refl) (and-then ! (local ! 18 refl) (no-more !))) (λ r e isr.
+        reads-record ! bhist ohist nhist hists (t .i) mem run 𝓣 known-record (below isupto more) (and-then ! (local ! 28 refl) (and-then ! (local ! 18 refl) (no-more !))) (λ r e isr.
         land ! (from ! (stop !)) (init ! 16 refl (LL.lawful Rc.the-type Rc′.the-laws 𝓤 H A W .typed r _ isr .0)) $
         -- and replayed
         assigns ! (slice-at ! 24 refl refl refl) (from ! (stop !)) (init ! 12 refl (tt, tt)) $
@@ -189,7 +185,7 @@ module _ {M : Type 1} (𝓤 : URA M) (H : Heap 𝓤) (A : Atoms 𝓤) (W : Given
 module _ {M : Type 1} (𝓤 : URA M) (H : Heap 𝓤) (A : Atoms 𝓤) (W : Given 𝓤 H A) (mem : Memory → SProp 𝓤) (run : Routine → Fun 𝓤) (𝓣 : Tables 𝓤 H) (known-record : Triple 𝓤 (𝓣 .C #record-at) (RecordAt 𝓤 H A mem run)) (known-replayed : Triple 𝓤 (𝓣 .C #replayed) (Replayed 𝓤 H A mem run)) where
   replayed-until-walks : Walks 𝓤 H A f.ended stayed (WpFn 𝓤 H (𝓣 .C) (𝓣 .Λ) code.function) (f.clauses 𝓤 H A mem run)
   replayed-until-walks = walked 𝓤 H A f.ended stayed (f.clauses 𝓤 H A mem run) (WpFn 𝓤 H (𝓣 .C) (𝓣 .Λ) code.function) (λ κs. (slice-vals, (uint-vals w64, (slice-vals, (slice-vals, tt))))) (λ κs. (shr-slice-tells (named 0) (κs .0) u64, (uint-tells w64, (mut-slice-tells (named 1) (κs .1 .0) T.the-row, (mut-slice-tells (named 2) (κs .1 .1 .0) T.the-row, tt)))))
-      (λ κs qs bounds a g are. needs 𝓤 (CanReplayAll (a .1 .0) (a .0 .now) (a .1 .1 .0 .now) (a .1 .1 .1 .0 .now)) _
+      (λ κs qs bounds a g are. needs 𝓤 (CanReplayAll (a .1 .0) (a .1 .1 .0 .now) (a .1 .1 .1 .0 .now)) _
       (walk 𝓤 H A W mem run (κs .0) (κs .1 .0) (κs .1 .1 .0) (qs .0) (qs .1 .0) (qs .1 .1 .0) (a .0 .ptr .0) (a .0 .ptr .1) (a .0 .name) (a .0 .now) (a .1 .0) (a .1 .1 .0 .ptr .0) (a .1 .1 .0 .ptr .1) (a .1 .1 .0 .name) (a .1 .1 .0 .now) (a .1 .1 .1 .0 .ptr .0) (a .1 .1 .1 .0 .ptr .1) (a .1 .1 .1 .0 .name) (a .1 .1 .1 .0 .now) 𝓣 known-record known-replayed (are .0 .0 .1) (are .1 .0 .1) (are .1 .1 .0 .0 .1) (are .1 .1 .1 .0 .0 .1)))
 
   replayed-until-meets : Meets 𝓤 H A f.signature (WpFn 𝓤 H (𝓣 .C) (𝓣 .Λ) code.function) (f.spec 𝓤 H A mem run)

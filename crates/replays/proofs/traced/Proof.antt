@@ -42,7 +42,7 @@ use Rattle.rules.proofs.rows.Record.Laws as Rc′
 use Rattle.replays.specs.Replaying.{CanTrace, Traces}
 use Rattle.takings.proofs.work.Taking as Tk
 use Rattle.takings.proofs.work.Taking.Laws as Tk′
-use Rattle.replays.proofs.Pieces.{can-replay-all, record-there, can-take-here, pieces-fit, traces}
+use Rattle.replays.proofs.Pieces.{can-replay-all, can-take-here, traces}
 use Rattle.takings.proofs.Locals.{local, part, slice-at}
 use Rattle.takings.proofs.Values.{R, at-list, sv}
 use Rattle.takings.proofs.TakingCalls.{TakeFrom, takes-from, Join, joins, Clear, clears}
@@ -122,7 +122,7 @@ module _ {M : Type 1} (𝓤 : URA M) (H : Heap 𝓤) (A : Atoms 𝓤) (W : Given
         pass1 ! (init ! 48 refl (tt, (tt, (record { fits = roomheld .0 }, tt)))) $ pass1 ! (init ! 46 refl (tt, (tt, (record { fits = roomout .0 }, tt)))) $ pass0 ! $
         -- [what history owns; its token; what work owns; its token; what held owns; its token; what pieces owns; its token; _25; …; and so on to _1; …; room for _0; …]
         -- the payment is found
-        finds-payment ! bhist ohist nhist hists records n mem run 𝓣 known-payment isrecords isn (req .lie) (and-then ! (local ! 56 refl) (and-then ! (local ! 54 refl) (and-then ! (local ! 52 refl) (no-more !)))) (λ place found isplace.
+        finds-payment ! bhist ohist nhist hists records n mem run 𝓣 known-payment isrecords isn (and-then ! (local ! 56 refl) (and-then ! (local ! 54 refl) (and-then ! (local ! 52 refl) (no-more !)))) (λ place found isplace.
         land ! (from ! (stop !)) (init ! 44 refl (tt, record { fits = isplace })) $
         -- the records before it are replayed
         assigns ! (slice-at ! 50 refl refl refl) (from ! (stop !)) (init ! 36 refl (tt, tt)) $
@@ -132,7 +132,7 @@ module _ {M : Type 1} (𝓤 : URA M) (H : Heap 𝓤) (A : Atoms 𝓤) (W : Given
         replays-until ! bhist ohist nhist hists bwork owork nwork works bheld oheld nheld helds place mem run 𝓣 known-until refl roomwork refl roomheld isplace (can-replay-all hists records n works helds outs req place found) (λ ν δ ν′ δ′. (and-then ! (local ! 54 refl) (and-then ! (local ! 42 refl) (and-then ! (local ! 32 refl) (and-then ! (local ! 28 refl) (no-more !)))))) (λ used w₁ h₁ wide long all isused.
         land ! (from ! (stop !)) (init ! 42 refl (tt, record { fits = isused })) $
         -- what it takes is taken
-        reads-record ! bhist ohist nhist hists place mem run 𝓣 known-record isplace (record-there hists records n works helds outs req place found) (and-then ! (local ! 56 refl) (and-then ! (local ! 44 refl) (no-more !))) (λ rec e isrec.
+        reads-record ! bhist ohist nhist hists place mem run 𝓣 known-record isplace (and-then ! (local ! 56 refl) (and-then ! (local ! 44 refl) (no-more !))) (λ rec e isrec.
         land ! (from ! (stop !)) (init ! 40 refl (LL.lawful Rc.the-type Rc′.the-laws 𝓤 H A W .typed rec _ isrec .0)) $ let of-r = LL.owed Rc.the-type Rc′.the-laws rec _ isrec in
         assigns ! (slice-at ! 50 refl refl refl) (from ! (stop !)) (init ! 28 refl (tt, tt)) $
         assigns ! (agg ! (and-then ! (local ! 28 refl) (and-then ! (part ! 50 1 refl refl refl) (no-more !)))) (from ! (stop !)) (init ! 26 refl (tt, (tt, (record { fits = roomwork .0 }, tt)))) $
@@ -148,7 +148,7 @@ module _ {M : Type 1} (𝓤 : URA M) (H : Heap 𝓤) (A : Atoms 𝓤) (W : Given
         assigns ! (slice-at ! 48 refl refl refl) (from ! (stop !)) (init ! 14 refl (tt, tt)) $
         assigns ! (agg ! (and-then ! (local ! 14 refl) (and-then ! (part ! 48 1 refl refl refl) (no-more !)))) (from ! (stop !)) (init ! 12 refl (tt, (tt, (record { fits = roomheld .0 }, tt)))) $
         move ! (6 ∷ 7 ∷ 2 ∷ 3 ∷ []) $
-        joins ! bout oout nout outs bheld oheld nheld h₂ 0 (s .taken) (rec .first) mem run 𝓣 known-join refl roomout (sameh ∙ long) roomheld (lit< tt) taken-fits (of-r .1 .1 .1 .0 .1) (pieces-fit hists records n works helds outs req place found used w₁ h₁ wide long all rec e s w₂ h₂ p) (λ ν δ ν′ δ′. (and-then ! (local ! 15 refl) (and-then ! (lit ! tt) (and-then ! (local ! 11 refl) (and-then ! (part ! 37 2 refl refl refl) (and-then ! (part ! 39 3 refl refl refl) (no-more !))))))) (λ laid sameo l.
+        joins ! bout oout nout outs bheld oheld nheld h₂ 0 (s .taken) (rec .first) mem run 𝓣 known-join refl roomout (sameh ∙ long) roomheld (lit< tt) taken-fits (of-r .1 .1 .1 .0 .1) (λ ν δ ν′ δ′. (and-then ! (local ! 15 refl) (and-then ! (lit ! tt) (and-then ! (local ! 11 refl) (and-then ! (part ! 37 2 refl refl refl) (and-then ! (part ! 39 3 refl refl refl) (no-more !))))))) (λ laid sameo l.
         land ! (from ! (stop !)) (init ! 20 refl (tt, tt)) $ assigns ! (slice-at ! 50 refl refl refl) (from ! (stop !)) (init ! 10 refl (tt, tt)) $
         assigns ! (agg ! (and-then ! (local ! 10 refl) (and-then ! (part ! 50 1 refl refl refl) (no-more !)))) (from ! (stop !)) (init ! 8 refl (tt, (tt, (record { fits = roomwork .0 }, tt)))) $
         move ! (4 ∷ 5 ∷ []) $ clears ! bwork owork nwork w₂ mem run 𝓣 known-clear (samew ∙ wide) roomwork (λ ν δ. (and-then ! (local ! 8 refl) (no-more !))) (λ w₃ samec c.

@@ -6,7 +6,6 @@ use Rattle.rules.specs.Frame.{inFrame}
 use Rattle.rules.specs.History.{historyInFrame}
 use Rattle.rules.specs.Answer.{bookOf}
 use Rattle.frames.specs.Parts.{deskWith}
-use Rattle.records.proofs.Counting.{can-work}
 use Rattle.history.proofs.Traced.{trace-told}
 use borrow.Author.Needs.{needs}
 use Rattle.history.proofs.refusals.trace_reply.Statement.{statement}
@@ -32,8 +31,7 @@ returns c =
     rw e at (trace-told (book (c .before .before .before .before .before)) (a .rows) (a .places) (a .n))
 
 payment-at-requires : tie.Need-payment-at-requires
-unfolding book
-payment-at-requires c κs = can-work (book (c .before .before .before .before .before)) (framed c) .lie
+payment-at-requires c κs = search needs
 
 refuse-requires : tie.Need-refuse-requires
 refuse-requires c κs = search needs

@@ -30,7 +30,7 @@ unfolding emptyStanding emptyState
 loop-holds c = (search needs, search needs, omega arith, low-first, history-none _ _ (omega arith) (omega arith) _ refl)
 
 record-at-requires : tie.Need-record-at-requires Inv-loop μ-loop
-record-at-requires c κs = omega arith
+record-at-requires c κs = search needs
 
 fits-requires : tie.Need-fits-requires Inv-loop μ-loop
 fits-requires c κs = search needs

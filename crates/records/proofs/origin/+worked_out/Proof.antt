@@ -73,7 +73,7 @@ worked-out-record-at-requires : (t : ℕ) → worked-out-lts.Need-record-at-requ
   counted-reads.Asked,
   counted-reads.Learnt,
 ) (worked-out-at t) worked-out.Post
-worked-out-record-at-requires t c κs = omega (arith, c .before .if1 .left, c .before .before .before .pre .1 .lie)
+worked-out-record-at-requires t c κs = tt
 
 worked-out-counted-requires : (t : ℕ) → worked-out-lts.Need-counted-requires (
   worked-out-below t,

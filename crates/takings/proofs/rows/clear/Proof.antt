@@ -46,10 +46,11 @@ use Rattle.rules.proofs.rows.DepositNumber.Laws as Dn′
 use Rattle.takings.proofs.Loop.{tests, next-fits, less, less-wf}
 use Rattle.takings.proofs.Locals.{local, part, slice-at}
 use Rattle.takings.proofs.Values.{R, machOf, no-number-is, zeros-is, at-list, sv, word, refmut, refm, places, cell, spare}
-use Rattle.takings.proofs.LotCalls.{PutLot, puts-lot}
-use Rattle.takings.proofs.rows.put_lot.Symbol as put-lot-def
-use Rattle.takings.proofs.rows.put_lot.Symbol.{name as #put-lot}
-use Rattle.takings.proofs.rows.put_lot.Met as put-lot-thm
+use Rattle.takings.proofs.Appending.{append-set}
+use Rattle.takings.proofs.LotCalls.{Append, appends}
+use Rattle.takings.proofs.rows.append.Symbol as append-def
+use Rattle.takings.proofs.rows.append.Symbol.{name as #append}
+use Rattle.takings.proofs.rows.append.Met as append-thm
 use Rattle.takings.proofs.rows.clear.Key.{name as #clear}
 use Rattle.takings.proofs.rows.clear as f
 use Rattle.takings.proofs.rows.clear.Statement as stated
@@ -110,7 +111,7 @@ module _ {M : Type 1} (𝓤 : URA M) (H : Heap 𝓤) (A : Atoms 𝓤) (W : Given
       suffices ! _ (ends-at 𝓤 H A f.ended stayed (f.clauses 𝓤 H A mem run) W (((κlot, tt), (qlot, tt), tt, a, at), tt) vunit tt (lotw, tt) (lenlot, tt)) $ says ! e $
       nothing ! $ move ! (2 ∷ 0 ∷ []) $ join ! $ frame ! $ nothing ! $ move ! (1 ∷ 0 ∷ []) $ fjoin ! $ frame ! $ feqI ! (List Val) (vunit ∷ []) (vunit ∷ []) refl $ done !
 
-  module _ (𝓣 : Tables 𝓤 H) (known-put : Triple 𝓤 (𝓣 .C #put-lot) (PutLot 𝓤 H A mem run)) where
+  module _ (𝓣 : Tables 𝓤 H) (known-append : Triple 𝓤 (𝓣 .C #append) (Append 𝓤 H A mem run)) where
     -- the whole context at the loop's head
     abbrev I : ℕ → ℕ → ℕ → ℕ → ℕ → ℕ → ℕ → ℕ → ℕ → ℕ → St nlot → List (Item 𝓤)
     I l₀ l₁ l₂ l₃ l₄ l₅ l₆ l₇ l₈ l₉ t =
@@ -134,10 +135,10 @@ module _ {M : Type 1} (𝓤 : URA M) (H : Heap 𝓤) (A : Atoms 𝓤) (W : Given
         -- a row is written
         assigns ! (slice-at ! 18 refl refl refl) (from ! (stop !)) (init ! 4 refl (tt, tt)) $
         assigns ! (agg ! (and-then ! (local ! 4 refl) (and-then ! (part ! 18 1 refl refl refl) (no-more !)))) (from ! (stop !)) (init ! 2 refl (tt, (tt, (record { fits = roomlot .0 }, tt)))) $
-        puts-lot ! blot olot nlot (t .zs) (t .i) noLot mem run 𝓣 known-put (t .len) roomlot fits zeros-is (λ ν δ. (and-then ! (local ! 2 refl) (and-then ! (local ! 14 refl) (and-then ! (local ! 16 refl) (no-more !))))) (λ ws same e.
+        appends ! blot olot nlot (t .zs) (t .i) noLot mem run 𝓣 known-append (t .len) roomlot fits zeros-is (λ ν δ. (and-then ! (local ! 2 refl) (and-then ! (local ! 14 refl) (and-then ! (local ! 16 refl) (no-more !))))) (λ ws same e.
         land ! (from ! (stop !)) (init ! 6 refl (tt, tt)) $
         assigns-last ! (bin ! (local ! 14 refl) (lit ! tt) (record { fits = next-fits })) (from ! (stop !)) (store ! 14 refl (tt, record { fits = next-fits })) $ forget ! 10 refl $
-        forget ! 8 refl $ forget ! 6 refl $ forget ! 4 refl $ forget ! 2 refl $ again ! (less μ) (I l₀ l₁ l₂ l₃ l₄ l₅ l₆ l₇ l₈ l₉) t (next t ws more same e) (falls t more))) (λ no.
+        forget ! 8 refl $ forget ! 6 refl $ forget ! 4 refl $ forget ! 2 refl $ again ! (less μ) (I l₀ l₁ l₂ l₃ l₄ l₅ l₆ l₇ l₈ l₉) t (next t ws more same (e ∙ append-set (t .i) (t .zs) noLot)) (falls t more))) (λ no.
         -- the loop is left
         exec ! (𝓣 .C) (𝓣 .Λ) (places codeMir.locals (l₀ ∷ l₁ ∷ l₂ ∷ l₃ ∷ l₄ ∷ l₅ ∷ l₆ ∷ l₇ ∷ l₈ ∷ l₉ ∷ [])) codeMir.t-5 (atRet (places codeMir.locals (l₀ ∷ l₁ ∷ l₂ ∷ l₃ ∷ l₄ ∷ l₅ ∷ l₆ ∷ l₇ ∷ l₈ ∷ l₉ ∷ [])) Post) $
         assigns ! (of-opd ! (unit-lit !)) (from ! (stop !)) (init ! 20 refl (tt, tt)) $
@@ -147,11 +148,11 @@ module _ {M : Type 1} (𝓤 : URA M) (H : Heap 𝓤) (A : Atoms 𝓤) (W : Given
         move ! (8 ∷ 9 ∷ []) $ free1 ! $ move ! (6 ∷ 7 ∷ []) $ free1 ! $ move ! (4 ∷ 5 ∷ []) $ free1 ! $ move ! (2 ∷ 3 ∷ []) $ free1 ! $ free0 ! $
         by ! (exits (t .zs) (t .len) (ended-at t (nltb→le (t .i) nlot no))))) (start lots)))))))))))
 
-module _ {M : Type 1} (𝓤 : URA M) (H : Heap 𝓤) (A : Atoms 𝓤) (W : Given 𝓤 H A) (mem : Memory → SProp 𝓤) (run : Routine → Fun 𝓤) (𝓣 : Tables 𝓤 H) (known-put : Triple 𝓤 (𝓣 .C #put-lot) (PutLot 𝓤 H A mem run)) where
+module _ {M : Type 1} (𝓤 : URA M) (H : Heap 𝓤) (A : Atoms 𝓤) (W : Given 𝓤 H A) (mem : Memory → SProp 𝓤) (run : Routine → Fun 𝓤) (𝓣 : Tables 𝓤 H) (known-append : Triple 𝓤 (𝓣 .C #append) (Append 𝓤 H A mem run)) where
   clear-walks : Walks 𝓤 H A f.ended stayed (WpFn 𝓤 H (𝓣 .C) (𝓣 .Λ) code.function) (f.clauses 𝓤 H A mem run)
   clear-walks = walked 𝓤 H A f.ended stayed (f.clauses 𝓤 H A mem run) (WpFn 𝓤 H (𝓣 .C) (𝓣 .Λ) code.function) (λ κs. (slice-vals, tt)) (λ κs. (mut-slice-tells (named 0) (κs .0) T.the-row, tt))
       (λ κs qs bounds a g are. via 𝓤 _ (fst∗ 𝓤 _ (emp 𝓤))
-      (walk 𝓤 H A W mem run (κs .0) (qs .0) (a .0 .ptr .0) (a .0 .ptr .1) (a .0 .name) (a .0 .now) 𝓣 known-put (are .0 .0 .1)))
+      (walk 𝓤 H A W mem run (κs .0) (qs .0) (a .0 .ptr .0) (a .0 .ptr .1) (a .0 .name) (a .0 .now) 𝓣 known-append (are .0 .0 .1)))
 
   clear-meets : Meets 𝓤 H A f.signature (WpFn 𝓤 H (𝓣 .C) (𝓣 .Λ) code.function) (f.spec 𝓤 H A mem run)
   clear-meets =
@@ -164,4 +165,4 @@ clear-spec 𝓤 H 𝓜 𝓖 𝓡 =
     entered 𝓤 H (tripleOf 𝓤 H (𝓖 .A) f.signature (f.spec 𝓤 H (𝓖 .A) (𝓜 .mem) (𝓡 .run)))
     (tables 𝓤 H 𝓜 𝓡 code.env .C) (tables 𝓤 H 𝓜 𝓡 code.env .Λ) #clear code.function (code.unfolded 𝓤 H 𝓜 𝓡)
     (clear-meets 𝓤 H (𝓖 .A) (givenOf 𝓤 H 𝓜 𝓖) (𝓜 .mem) (𝓡 .run) (tablesOf 𝓤 H 𝓜 (tables 𝓤 H 𝓜 𝓡 code.env))
-    (cited 𝓤 H (PutLot 𝓤 H (𝓖 .A) (𝓜 .mem) (𝓡 .run)) 𝓜 𝓡 code.env #put-lot put-lot-def.routine code.calls-takings·rows·put-lot (put-lot-thm.met 𝓤 H 𝓜 𝓖 𝓡)))
+    (cited 𝓤 H (Append 𝓤 H (𝓖 .A) (𝓜 .mem) (𝓡 .run)) 𝓜 𝓡 code.env #append append-def.routine code.calls-takings·rows·append (append-thm.met 𝓤 H 𝓜 𝓖 𝓡)))

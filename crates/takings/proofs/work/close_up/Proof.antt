@@ -41,15 +41,16 @@ use Rattle.rules.specs.declared.rows.Lot.{Lot}
 use Rattle.rules.specs.Lots.{noLot}
 use Rattle.rules.proofs.rows.Lot as T
 use Rattle.rules.proofs.rows.Lot.Laws as T′
-use Rattle.takings.specs.Working.{CanClose, Closes}
+use Rattle.takings.specs.Working.{CanClose, ClosesUp}
 use Rattle.takings.proofs.Passing.{Closing, closing-first, closing-on, closing-last}
 use Rattle.takings.proofs.Loop.{tests, below, next-fits, less, less-wf, both-hold}
 use Rattle.takings.proofs.Locals.{local, part, slice-at}
 use Rattle.takings.proofs.Values.{R, at-list, sv, word, refmut, refm, refi, places, cell, spare}
-use Rattle.takings.proofs.LotCalls.{PutLot, puts-lot, LotAt, gets-lot}
-use Rattle.takings.proofs.rows.put_lot.Symbol as put-lot-def
-use Rattle.takings.proofs.rows.put_lot.Symbol.{name as #put-lot}
-use Rattle.takings.proofs.rows.put_lot.Met as put-lot-thm
+use Rattle.takings.proofs.Appending.{append-set}
+use Rattle.takings.proofs.LotCalls.{Append, appends, LotAt, gets-lot}
+use Rattle.takings.proofs.rows.append.Symbol as append-def
+use Rattle.takings.proofs.rows.append.Symbol.{name as #append}
+use Rattle.takings.proofs.rows.append.Met as append-thm
 use Rattle.takings.proofs.rows.lot_at.Symbol as lot-at-def
 use Rattle.takings.proofs.rows.lot_at.Symbol.{name as #lot-at}
 use Rattle.takings.proofs.rows.lot_at.Met as lot-at-thm
@@ -108,7 +109,7 @@ module _ {M : Type 1} (𝓤 : URA M) (H : Heap 𝓤) (A : Atoms 𝓤) (W : Given
   abbrev Post : Val → SProp 𝓤
   Post = walkOf 𝓤 H A f.ended stayed (f.clauses 𝓤 H A mem run) .post (((κwork, tt), (qwork, tt), tt, a, at), tt)
 
-  exits : dest < 2 ^ 64 → from′ < 2 ^ 64 → used < 2 ^ 64 → (workw : List Lot) → length workw ≡ nwork → Closes dest from′ used works workw → ent 𝓤 (⋆ 𝓤 H A (‵ (MutSlice (named 0) κwork R .own (at-list bwork owork γwork workw) (sv bwork owork nwork ∷ [])) ∷ ‵ (flft κwork qwork) ∷ [])) (Post vunit)
+  exits : dest < 2 ^ 64 → from′ < 2 ^ 64 → used < 2 ^ 64 → (workw : List Lot) → length workw ≡ nwork → ClosesUp dest from′ used works workw → ent 𝓤 (⋆ 𝓤 H A (‵ (MutSlice (named 0) κwork R .own (at-list bwork owork γwork workw) (sv bwork owork nwork ∷ [])) ∷ ‵ (flft κwork qwork) ∷ [])) (Post vunit)
   exits isdest isfrom isused workw lenwork e =
       qed W (‵ (MutSlice (named 0) κwork R .own (at-list bwork owork γwork workw) (sv bwork owork nwork ∷ [])) ∷ ‵ (flft κwork qwork) ∷ []) ∵
       suffices ! _ (ends-at 𝓤 H A f.ended stayed (f.clauses 𝓤 H A mem run) W (((κwork, tt), (qwork, tt), tt, a, at), tt) vunit tt (workw, (tt, (tt, (tt, tt)))) (lenwork, (tt, (tt, (tt, tt))))) $ says ! e $
@@ -116,7 +117,7 @@ module _ {M : Type 1} (𝓤 : URA M) (H : Heap 𝓤) (A : Atoms 𝓤) (W : Given
       owned ! usize (Is usize) (uint-makes 𝓤 H A W w64) from′ _ (refl, isfrom) $ fjoin ! $ owned ! usize (Is usize) (uint-makes 𝓤 H A W w64) dest _ (refl, isdest) $ fjoin ! $
       move ! (1 ∷ 0 ∷ []) $ fjoin ! $ frame ! $ feqI ! (List Val) (vunit ∷ []) (vunit ∷ []) refl $ done !
 
-  module _ (𝓣 : Tables 𝓤 H) (known-put : Triple 𝓤 (𝓣 .C #put-lot) (PutLot 𝓤 H A mem run)) (known-get : Triple 𝓤 (𝓣 .C #lot-at) (LotAt 𝓤 H A mem run)) where
+  module _ (𝓣 : Tables 𝓤 H) (known-append : Triple 𝓤 (𝓣 .C #append) (Append 𝓤 H A mem run)) (known-get : Triple 𝓤 (𝓣 .C #lot-at) (LotAt 𝓤 H A mem run)) where
     -- the whole context at the loop's head
     abbrev I : ℕ → ℕ → ℕ → ℕ → ℕ → ℕ → ℕ → ℕ → ℕ → ℕ → ℕ → ℕ → ℕ → ℕ → ℕ → ℕ → St dest from′ used works → List (Item 𝓤)
     I l₀ l₁ l₂ l₃ l₄ l₅ l₆ l₇ l₈ l₉ l₁₀ l₁₁ l₁₂ l₁₃ l₁₄ l₁₅ t =
@@ -149,12 +150,12 @@ module _ {M : Type 1} (𝓤 : URA M) (H : Heap 𝓤) (A : Atoms 𝓤) (W : Given
         -- and written further up
         assigns ! (slice-at ! 30 refl refl refl) (from ! (stop !)) (init ! 4 refl (tt, tt)) $
         assigns ! (agg ! (and-then ! (local ! 4 refl) (and-then ! (part ! 30 1 refl refl refl) (no-more !)))) (from ! (stop !)) (init ! 2 refl (tt, (tt, (record { fits = roomwork .0 }, tt)))) $
-        puts-lot ! bwork owork nwork (t .ws) (t .k) l mem run 𝓣 known-put (t .lenw) roomwork (below isused here) isl (λ ν δ. (and-then ! (local ! 2 refl) (and-then ! (local ! 22 refl) (and-then ! (local ! 18 refl) (no-more !))))) (λ ws′ same w.
+        appends ! bwork owork nwork (t .ws) (t .k) l mem run 𝓣 known-append (t .lenw) roomwork (below isused here) isl (λ ν δ. (and-then ! (local ! 2 refl) (and-then ! (local ! 22 refl) (and-then ! (local ! 18 refl) (no-more !))))) (λ ws′ same w.
         land ! (from ! (stop !)) (init ! 6 refl (tt, tt)) $
         assigns ! (bin ! (local ! 22 refl) (lit ! tt) (record { fits = next-fits isused here })) (from ! (stop !)) (store ! 22 refl (tt, record { fits = next-fits isused here })) $
         assigns-last ! (bin ! (local ! 20 refl) (lit ! tt) (record { fits = next-fits isused more })) (from ! (stop !)) (store ! 20 refl (tt, record { fits = next-fits isused more })) $
         forget ! 18 refl $ forget ! 16 refl $ forget ! 14 refl $ forget ! 12 refl $ forget ! 10 refl $ forget ! 8 refl $ forget ! 6 refl $ forget ! 4 refl $ forget ! 2 refl $
-        again ! (less μ) (I l₀ l₁ l₂ l₃ l₄ l₅ l₆ l₇ l₈ l₉ l₁₀ l₁₁ l₁₂ l₁₃ l₁₄ l₁₅) t (next req t more l e ws′ same w) (falls t more)))) (λ no.
+        again ! (less μ) (I l₀ l₁ l₂ l₃ l₄ l₅ l₆ l₇ l₈ l₉ l₁₀ l₁₁ l₁₂ l₁₃ l₁₄ l₁₅) t (next req t more l e ws′ same (w ∙ append-set (t .k) (t .ws) l)) (falls t more)))) (λ no.
         -- the loop is left
         exec ! (𝓣 .C) (𝓣 .Λ) (places codeMir.locals (l₀ ∷ l₁ ∷ l₂ ∷ l₃ ∷ l₄ ∷ l₅ ∷ l₆ ∷ l₇ ∷ l₈ ∷ l₉ ∷ l₁₀ ∷ l₁₁ ∷ l₁₂ ∷ l₁₃ ∷ l₁₄ ∷ l₁₅ ∷ [])) codeMir.t-4 (atRet (places codeMir.locals (l₀ ∷ l₁ ∷ l₂ ∷ l₃ ∷ l₄ ∷ l₅ ∷ l₆ ∷ l₇ ∷ l₈ ∷ l₉ ∷ l₁₀ ∷ l₁₁ ∷ l₁₂ ∷ l₁₃ ∷ l₁₄ ∷ l₁₅ ∷ [])) Post) $
         assigns ! (of-opd ! (unit-lit !)) (from ! (stop !)) (init ! 32 refl (tt, tt)) $
@@ -168,11 +169,11 @@ module _ {M : Type 1} (𝓤 : URA M) (H : Heap 𝓤) (A : Atoms 𝓤) (W : Given
         move ! (2 ∷ 3 ∷ []) $ free1 ! $ free0 ! $
         by ! (exits isdest isfrom isused (t .ws) (t .lenw) (closing-last dest from′ used works req (t .k) (t .i) (t .ws) (t .far) (t .lenw) no)))) (start req)))))))))))))))))
 
-module _ {M : Type 1} (𝓤 : URA M) (H : Heap 𝓤) (A : Atoms 𝓤) (W : Given 𝓤 H A) (mem : Memory → SProp 𝓤) (run : Routine → Fun 𝓤) (𝓣 : Tables 𝓤 H) (known-put : Triple 𝓤 (𝓣 .C #put-lot) (PutLot 𝓤 H A mem run)) (known-get : Triple 𝓤 (𝓣 .C #lot-at) (LotAt 𝓤 H A mem run)) where
+module _ {M : Type 1} (𝓤 : URA M) (H : Heap 𝓤) (A : Atoms 𝓤) (W : Given 𝓤 H A) (mem : Memory → SProp 𝓤) (run : Routine → Fun 𝓤) (𝓣 : Tables 𝓤 H) (known-append : Triple 𝓤 (𝓣 .C #append) (Append 𝓤 H A mem run)) (known-get : Triple 𝓤 (𝓣 .C #lot-at) (LotAt 𝓤 H A mem run)) where
   close-up-walks : Walks 𝓤 H A f.ended stayed (WpFn 𝓤 H (𝓣 .C) (𝓣 .Λ) code.function) (f.clauses 𝓤 H A mem run)
   close-up-walks = walked 𝓤 H A f.ended stayed (f.clauses 𝓤 H A mem run) (WpFn 𝓤 H (𝓣 .C) (𝓣 .Λ) code.function) (λ κs. (slice-vals, (uint-vals w64, (uint-vals w64, (uint-vals w64, tt))))) (λ κs. (mut-slice-tells (named 0) (κs .0) T.the-row, (uint-tells w64, (uint-tells w64, (uint-tells w64, tt)))))
       (λ κs qs bounds a g are. needs 𝓤 (CanClose (a .1 .0) (a .1 .1 .0) (a .1 .1 .1 .0) (a .0 .now)) _
-      (walk 𝓤 H A W mem run (κs .0) (qs .0) (a .0 .ptr .0) (a .0 .ptr .1) (a .0 .name) (a .0 .now) (a .1 .0) (a .1 .1 .0) (a .1 .1 .1 .0) 𝓣 known-put known-get (are .0 .0 .1) (are .1 .0 .1) (are .1 .1 .0 .1) (are .1 .1 .1 .0 .1)))
+      (walk 𝓤 H A W mem run (κs .0) (qs .0) (a .0 .ptr .0) (a .0 .ptr .1) (a .0 .name) (a .0 .now) (a .1 .0) (a .1 .1 .0) (a .1 .1 .1 .0) 𝓣 known-append known-get (are .0 .0 .1) (are .1 .0 .1) (are .1 .1 .0 .1) (are .1 .1 .1 .0 .1)))
 
   close-up-meets : Meets 𝓤 H A f.signature (WpFn 𝓤 H (𝓣 .C) (𝓣 .Λ) code.function) (f.spec 𝓤 H A mem run)
   close-up-meets =
@@ -185,5 +186,5 @@ close-up-spec 𝓤 H 𝓜 𝓖 𝓡 =
     entered 𝓤 H (tripleOf 𝓤 H (𝓖 .A) f.signature (f.spec 𝓤 H (𝓖 .A) (𝓜 .mem) (𝓡 .run)))
     (tables 𝓤 H 𝓜 𝓡 code.env .C) (tables 𝓤 H 𝓜 𝓡 code.env .Λ) #close-up code.function (code.unfolded 𝓤 H 𝓜 𝓡)
     (close-up-meets 𝓤 H (𝓖 .A) (givenOf 𝓤 H 𝓜 𝓖) (𝓜 .mem) (𝓡 .run) (tablesOf 𝓤 H 𝓜 (tables 𝓤 H 𝓜 𝓡 code.env))
-    (cited 𝓤 H (PutLot 𝓤 H (𝓖 .A) (𝓜 .mem) (𝓡 .run)) 𝓜 𝓡 code.env #put-lot put-lot-def.routine code.calls-takings·rows·put-lot (put-lot-thm.met 𝓤 H 𝓜 𝓖 𝓡))
+    (cited 𝓤 H (Append 𝓤 H (𝓖 .A) (𝓜 .mem) (𝓡 .run)) 𝓜 𝓡 code.env #append append-def.routine code.calls-takings·rows·append (append-thm.met 𝓤 H 𝓜 𝓖 𝓡))
     (cited 𝓤 H (LotAt 𝓤 H (𝓖 .A) (𝓜 .mem) (𝓡 .run)) 𝓜 𝓡 code.env #lot-at lot-at-def.routine code.calls-takings·rows·lot-at (lot-at-thm.met 𝓤 H 𝓜 𝓖 𝓡)))

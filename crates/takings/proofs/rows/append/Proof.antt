@@ -1,6 +1,6 @@
--- `takings::rows::put_lot` meets its contract: a walk of its MIR, by hand, with a branch. Within the slice the borrow is opened, the element stored to whole, and the borrow closed; past its end nothing changes.
+-- `takings::rows::append` meets its contract: a walk of its MIR, by hand, with a branch. Within the slice the borrow is opened, the element after the used ones stored to whole, and the borrow closed; past its end nothing changes.
 -- Assumes nothing.
-use mathlib.Core.Path.{_≡_, refl, sym, ap, subst}
+use mathlib.Core.Path.{_≡_, refl, sym, ap, subst, _∙_}
 use Prim.Native.Nat.{ℕ, _<_, _^_, _*_}
 use native.Mathlib.Omega.{arith}
 use mathlib.Core.List.{List, [], _∷_}
@@ -44,10 +44,11 @@ use Rattle.rules.specs.declared.rows.Lot.{Lot}
 use Rattle.rules.proofs.rows.Lot as T
 use Rattle.rules.proofs.rows.Lot.Laws as T′
 use Rattle.takings.proofs.Values.{R, machOf}
-use Rattle.takings.proofs.rows.put_lot.Key.{name as #put-lot}
-use Rattle.takings.proofs.rows.put_lot as f
-use Rattle.takings.proofs.rows.put_lot.Statement as stated
-use Rattle.takings.proofs.rows.put_lot.Code as code
+use Rattle.takings.proofs.Appending.{append-set}
+use Rattle.takings.proofs.rows.append.Key.{name as #append}
+use Rattle.takings.proofs.rows.append as f
+use Rattle.takings.proofs.rows.append.Statement as stated
+use Rattle.takings.proofs.rows.append.Code as code
 
 -- the byte at which element i begins has a number
 place-fits : {i l : ℕ} → l * 32 < 2 ^ 63 → i < l → i * 32 < 2 ^ 64
@@ -82,7 +83,7 @@ module _ {M : Type 1} (𝓤 : URA M) (H : Heap 𝓤) (A : Atoms 𝓤) (W : Given
   exits : (zs : List Lot) → zs ≡ set ys i lot → length zs ≡ length ys → i < 2 ^ 64 → Is R lot (machOf lot ∷ []) → ent 𝓤 (⋆ 𝓤 H A (‵ (MutSlice (named 0) κ R .own (x zs) (s ∷ [])) ∷ ‵ (flft κ q) ∷ [])) (Post vunit)
   exits zs e len gi gv =
       qed W (‵ (MutSlice (named 0) κ R .own (x zs) (s ∷ [])) ∷ ‵ (flft κ q) ∷ []) ∵
-      suffices ! _ (ends-at 𝓤 H A f.ended stayed (f.clauses 𝓤 H A mem run) W (((κ, tt), (q, tt), tt, a, at), tt) vunit tt (zs, (tt, (tt, tt))) (len, (tt, (tt, tt)))) $ says ! e $
+      suffices ! _ (ends-at 𝓤 H A f.ended stayed (f.clauses 𝓤 H A mem run) W (((κ, tt), (q, tt), tt, a, at), tt) vunit tt (zs, (tt, (tt, tt))) (len, (tt, (tt, tt)))) $ says ! (e ∙ sym (append-set i ys lot)) $
       nothing ! $ move ! (2 ∷ 0 ∷ []) $ join ! $ frame ! $
       nothing ! $ owned ! R (Is R) ((LL.makes T.the-type T′.the-plain) 𝓤 H A) lot _ gv $ fjoin ! $ owned ! usize (Is usize) (uint-makes 𝓤 H A W w64) i _ (refl, gi) $ fjoin ! $ move ! (1 ∷ 0 ∷ []) $ fjoin ! $
       feqI ! (List Val) (vunit ∷ []) (vunit ∷ []) refl $ move ! (1 ∷ 0 ∷ []) $ done !
@@ -117,19 +118,19 @@ module _ {M : Type 1} (𝓤 : URA M) (H : Heap 𝓤) (A : Atoms 𝓤) (W : Given
         move ! (16 ∷ 17 ∷ []) $ free1 ! $ move ! (14 ∷ 15 ∷ []) $ free1 ! $ move ! (12 ∷ 13 ∷ []) $ free1 ! $ move ! (10 ∷ 11 ∷ []) $ free1 ! $ move ! (8 ∷ 9 ∷ []) $ free1 ! $ move ! (6 ∷ 7 ∷ []) $ free1 ! $ move ! (4 ∷ 5 ∷ []) $ free1 ! $ move ! (2 ∷ 3 ∷ []) $ free1 ! $ free0 ! $ by ! (exits ys (sym (set-out ys i lot (nltb→le i (length ys) z))) refl gi gv))))))))))
 
 module _ {M : Type 1} (𝓤 : URA M) (H : Heap 𝓤) (A : Atoms 𝓤) (W : Given 𝓤 H A) (mem : Memory → SProp 𝓤) (run : Routine → Fun 𝓤) where
-  put-lot-walks : (C : Calls 𝓤 H) (Λ : Loops 𝓤 H) → Walks 𝓤 H A f.ended stayed (WpFn 𝓤 H C Λ code.function) (f.clauses 𝓤 H A mem run)
-  put-lot-walks C Λ = walked 𝓤 H A f.ended stayed (f.clauses 𝓤 H A mem run) (WpFn 𝓤 H C Λ code.function) (λ κs. (slice-vals, (uint-vals w64, (LL.vals T.the-type T′.the-laws, tt)))) (λ κs. (mut-slice-tells (named 0) (κs .0) T.the-row, (uint-tells w64, (LL.tells T.the-type T′.the-laws, tt))))
+  append-walks : (C : Calls 𝓤 H) (Λ : Loops 𝓤 H) → Walks 𝓤 H A f.ended stayed (WpFn 𝓤 H C Λ code.function) (f.clauses 𝓤 H A mem run)
+  append-walks C Λ = walked 𝓤 H A f.ended stayed (f.clauses 𝓤 H A mem run) (WpFn 𝓤 H C Λ code.function) (λ κs. (slice-vals, (uint-vals w64, (LL.vals T.the-type T′.the-laws, tt)))) (λ κs. (mut-slice-tells (named 0) (κs .0) T.the-row, (uint-tells w64, (LL.tells T.the-type T′.the-laws, tt))))
       (λ κs qs bounds a g are. via 𝓤 _ (fst∗ 𝓤 _ (emp 𝓤)) (walk 𝓤 H A W mem run (κs .0) (qs .0) (a .0 .ptr .0) (a .0 .ptr .1) (a .0 .name) (a .0 .now) (a .1 .0) (a .1 .1 .0) C Λ (are .0 .0 .1) (are .1 .0 .1) (are .1 .1 .0)))
 
-put-lot-meets : {M : Type 1} (𝓤 : URA M) (H : Heap 𝓤) (A : Atoms 𝓤) → Given 𝓤 H A → (mem : Memory → SProp 𝓤) (run : Routine → Fun 𝓤) (𝓣 : Tables 𝓤 H)
+append-meets : {M : Type 1} (𝓤 : URA M) (H : Heap 𝓤) (A : Atoms 𝓤) → Given 𝓤 H A → (mem : Memory → SProp 𝓤) (run : Routine → Fun 𝓤) (𝓣 : Tables 𝓤 H)
     → Meets 𝓤 H A f.signature (WpFn 𝓤 H (𝓣 .C) (𝓣 .Λ) code.function) (f.spec 𝓤 H A mem run)
-put-lot-meets 𝓤 H A W mem run 𝓣 =
+append-meets 𝓤 H A W mem run 𝓣 =
     walk-meets 𝓤 H A f.ended stayed W (goes-slice 𝓤 H A W 1 0 tt (plain (λ _. T.the-row)), (goes-none 𝓤 H A W 1 (λ _. usize) yes (λ κs x f. refl), (goes-none 𝓤 H A W 1 (λ _. T.the-row) yes (λ κs x f. refl), tt))) (f.clauses 𝓤 H A mem run)
-    (WpFn 𝓤 H (𝓣 .C) (𝓣 .Λ) code.function) (WpFn-mono 𝓤 H (W .laws) 𝓣 code.function) (put-lot-walks 𝓤 H A W mem run (𝓣 .C) (𝓣 .Λ))
+    (WpFn 𝓤 H (𝓣 .C) (𝓣 .Λ) code.function) (WpFn-mono 𝓤 H (W .laws) 𝓣 code.function) (append-walks 𝓤 H A W mem run (𝓣 .C) (𝓣 .Λ))
 
-pub put-lot-spec : {M : Type 1} → stated.statement M
+pub append-spec : {M : Type 1} → stated.statement M
 unfolding code.routine tablesOf
-put-lot-spec 𝓤 H 𝓜 𝓖 𝓡 =
+append-spec 𝓤 H 𝓜 𝓖 𝓡 =
     entered 𝓤 H (tripleOf 𝓤 H (𝓖 .A) f.signature (f.spec 𝓤 H (𝓖 .A) (𝓜 .mem) (𝓡 .run)))
-    (tables 𝓤 H 𝓜 𝓡 code.env .C) (tables 𝓤 H 𝓜 𝓡 code.env .Λ) #put-lot code.function (code.unfolded 𝓤 H 𝓜 𝓡)
-    (put-lot-meets 𝓤 H (𝓖 .A) (givenOf 𝓤 H 𝓜 𝓖) (𝓜 .mem) (𝓡 .run) (tablesOf 𝓤 H 𝓜 (tables 𝓤 H 𝓜 𝓡 code.env)))
+    (tables 𝓤 H 𝓜 𝓡 code.env .C) (tables 𝓤 H 𝓜 𝓡 code.env .Λ) #append code.function (code.unfolded 𝓤 H 𝓜 𝓡)
+    (append-meets 𝓤 H (𝓖 .A) (givenOf 𝓤 H 𝓜 𝓖) (𝓜 .mem) (𝓡 .run) (tablesOf 𝓤 H 𝓜 (tables 𝓤 H 𝓜 𝓡 code.env)))
