@@ -2,7 +2,7 @@
 use Prim.Native.Nat.{ℕ, suc, _+_, _-_, _*_, _≤_, _<_}
 use mathlib.Core.Path.{_≡_, refl, sym, ap, _∙_}
 use mathlib.Core.Logic.{_≢_}
-use mathlib.Core.Bool.{Bool, true, false, _&&_, cond}
+use mathlib.Core.Bool.{Bool, true, false, not, _&&_, cond}
 use mathlib.Core.List.{List, [], _∷_, _++_}
 use native.Mathlib.Omega.{arith}
 use lib.ListN.{length, getD, set}
@@ -11,24 +11,37 @@ use Rattle.rules.specs.declared.rows.Record.{Record}
 use Rattle.rules.specs.declared.desk.Desk.{Desk}
 use Rattle.rules.specs.declared.calls.Call.{Call}
 use Rattle.rules.specs.declared.answers.Answer.{Answer}
+use Rattle.rules.specs.declared.answers.Refusal.{Refusal}
 use Rattle.rules.specs.Limits.{ceiling, within, isMember, isAsset}
 use Rattle.rules.specs.Lists.{all}
 use Rattle.rules.specs.Tables.{Edit, lay, edited, editedTable, recordShape}
-use Rattle.rules.specs.State.{Book, historyOf, view, laid}
-use Rattle.rules.specs.Replies.{told, plain}
-use Rattle.rules.specs.Effects.{effect, cell, balance}
-use Rattle.rules.specs.Frame.{upToCeiling}
-use Rattle.rules.specs.Answer.{answer, replyNumber, doneAnswer, piecesOf, bookOf, outcomeOf}
+use Rattle.rules.specs.State.{Book, historyOf, view}
+use Rattle.rules.specs.Replies.{numberOf, told, plain, smallest}
+use Rattle.rules.specs.Refusals.{table}
+use Rattle.rules.specs.Effects.{cell, balance}
+use Rattle.rules.specs.Frame.{upToCeiling, inFrame}
+use Rattle.rules.specs.Answer.{frameTest, badBook, done, answer, replyNumber, doneAnswer, piecesOf, bookOf, outcomeOf}
 use Rattle.rules.proofs.Laying.{RoomFor, lay-edited}
 use Rattle.rules.proofs.Shapes.{recordSound}
 use Rattle.rules.proofs.Books.{Framed}
 use Rattle.rules.proofs.Tests.{both-of, true-within, all-at}
 use Rattle.rules.specs.Facts.{Within, Accepted}
-use Rattle.rules.proofs.Accepts.{accepted-number, by-number, not-done}
+use Rattle.rules.proofs.Accepts.{accepted-number, by-number, not-done, framed-number, unframed-number}
 use Rattle.tables.specs.Rows.{putAt}
 use Rattle.desk.specs.Parts.{isDone, ofEight}
 use Rattle.desk.specs.Kept.{eightSet, balanceSet}
 use Rattle.desk.proofs.Chains.{done-number, refused-number}
+
+-- ---- the frame, and then the table
+-- a call's answer, its table's behind the frame's test, tells the number that the rules give
+pub frame-told : (b : Book) (c : Call) (a found : Answer) → frameTest b c ≡ badBook b → (inFrame b ≡ true → told found ≡ plain (smallest (table (view b) c)))
+    → a ≡ cond (not (inFrame b)) (Answer.Refused Refusal.BadBook) found → told a ≡ plain (replyNumber b c)
+unfolding numberOf told
+frame-told b c a found e h p = go (inFrame b) refl p
+  where
+    go : (t : Bool) → inFrame b ≡ t → a ≡ cond (not t) (Answer.Refused Refusal.BadBook) found → told a ≡ plain (replyNumber b c)
+    go true f q = rw (q, framed-number b c (ap (λ (r : ℕ × Bool). r .1) e ∙ rw f)) (h f)
+    go false f q = rw (q, unframed-number b c (e ∙ rw f))
 
 -- ---- the two ends of a call
 module _ (b : Book) (c : Call) (a : Answer) (tells : told a ≡ plain (replyNumber b c)) where
@@ -40,7 +53,7 @@ module _ (b : Book) (c : Call) (a : Answer) (tells : told a ≡ plain (replyNumb
       rw (
         not-done (replyNumber b c) (told (doneAnswer (view b) c)) (plain (replyNumber b c)) n,
         not-done (replyNumber b c) (piecesOf (view b) c) [] n,
-        not-done (replyNumber b c) (laid (effect c (view b)) b) b n,
+        not-done (replyNumber b c) (done c b) b n,
         tells,
       )
 
@@ -50,7 +63,7 @@ module _ (b : Book) (c : Call) (a : Answer) (tells : told a ≡ plain (replyNumb
 
 -- done: the answer of a done call, and the effect laid
 pub lays : (b : Book) (c : Call) → Accepted b c → (a : Answer) (d : Desk) (i o h : List ℕ) → told a ≡ told (doneAnswer (view b) c) → piecesOf (view b) c ≡ []
-    → bookOf d i o h ≡ laid (effect c (view b)) b → outcomeOf (record { answer = a; desk = d }) i o h ≡ answer b c
+    → bookOf d i o h ≡ done c b → outcomeOf (record { answer = a; desk = d }) i o h ≡ answer b c
 unfolding answer
 lays b c y a d i o h p q l = rw (accepted-number b c y, p, q, ← l)
 
@@ -65,7 +78,7 @@ record-added b f r h =
 
 -- done, for a call whose answer is a bare Done: the answer that was found is that
 pub lays-plain : (b : Book) (c : Call) → Accepted b c → (a : Answer) → told a ≡ plain (replyNumber b c) → told (doneAnswer (view b) c) ≡ plain 0 → piecesOf (view b) c ≡ []
-    → (d : Desk) (i o h : List ℕ) → bookOf d i o h ≡ laid (effect c (view b)) b → outcomeOf (record { answer = a; desk = d }) i o h ≡ answer b c
+    → (d : Desk) (i o h : List ℕ) → bookOf d i o h ≡ done c b → outcomeOf (record { answer = a; desk = d }) i o h ≡ answer b c
 lays-plain b c y a p q r d i o h l = lays b c y a d i o h (p ∙ ap plain (accepted-number b c y) ∙ sym q) r l
 
 -- ---- no sum can wrap

@@ -4,14 +4,14 @@ use mathlib.Core.Path.{_≡_, refl, sym, ap, _∙_}
 use mathlib.Core.Bool.{Bool, true, false, _&&_, and-assoc, and-comm, and-true, and-false}
 use mathlib.Core.List.{List, [], _∷_}
 use lib.Dec.{leb, ltb, eqb, lit<}
-use lib.ListN.{length, getD}
+use lib.ListN.{length, getD, take-append-drop}
 use borrow.Author.Tests.{eq-eqb, ne-eqb, le-leb, lt-leb}
 use Rattle.rules.specs.declared.rows.Deposit.{Deposit}
 use Rattle.rules.specs.declared.rows.Payment.{Payment}
 use Rattle.rules.specs.Limits.{isMember, isAsset, isAmount, isPayee}
 use Rattle.rules.specs.Lists.{all, ands}
 use Rattle.rules.specs.Tables.{rowsOf, depositShape, paymentShape}
-use Rattle.rules.specs.State.{Book}
+use Rattle.rules.specs.State.{Book, view, outboxOf}
 use Rattle.rules.specs.Frame.{depositInLimits, paymentInLimits, numbersRise, noncesFrom, noncesRise, inFrame}
 use Rattle.rules.proofs.Laying.{length-rows}
 use Rattle.tables.specs.Rows.{rowAt}
@@ -128,5 +128,5 @@ regroup c1 c2 c3 c4 c5 c6 c7 c8 c9 c10 c11 c12 c13 c14 c15 c16 c17 = simp (and-t
 pub frame-parts : (b : Book)
     → inFrame b
     ≡ countsFrame (countsOf (b .desk)) (length (b .history)) && (listsFrame (b .desk .balances) (b .desk .holders) (b .desk .lifetime) (b .desk .settled) && (inboxFrame (b .inbox) (b .desk .unclaimed) (b .desk .last .0) && outboxFrame (b .outbox) (b .desk .payments) (b .desk .next .0)))
-unfolding inFrame countsFrame listsFrame inboxFrame outboxFrame
-frame-parts b = regroup _ _ _ _ _ _ _ _ _ _ _ _ _ _ _ _ _
+unfolding inFrame view countsFrame listsFrame inboxFrame outboxFrame
+frame-parts b = rw (take-append-drop (b .desk .inflight) (outboxOf b)) (regroup _ _ _ _ _ _ _ _ _ _ _ _ _ _ _ _ _)

@@ -59,6 +59,23 @@ pub fn in_frame<'a>(
                 & outbox_in_frame(outbox, counts.payments, next.0)))
 }
 
+// The same of a desk by value, for a call of the library: it tests for itself.
+pub fn framed(d: Desk, inbox: &[u64], outbox: &[u64], history: &[u64]) -> bool
+    ensures { λ r. ⌜ r ≡ inFrame (bookOf d (now (inbox .entry)) (now (outbox .entry)) (now (history .entry))) ⌝ }
+{
+    let counts = counts_of(d);
+    in_frame(
+        &d.balances,
+        &d.holders,
+        &d.lifetime,
+        &d.settled,
+        counts,
+        inbox,
+        outbox,
+        history,
+    )
+}
+
 // The counts and the counters of the desk, and the size of the history's table.
 fn counts_in_frame(c: Counts, size: usize) -> bool
     ensures { λ r. ⌜ r ≡ countsFrame c size ⌝ }

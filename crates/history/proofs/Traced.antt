@@ -2,7 +2,7 @@
 use Prim.Native.Nat.{ℕ, _≤_}
 use mathlib.Core.Path.{_≡_, refl, sym, _∙_}
 use mathlib.Core.Logic.{_≢_}
-use mathlib.Core.Bool.{Bool, true, false, not, _&&_, _||_}
+use mathlib.Core.Bool.{Bool, true, false, not, _||_, cond}
 use mathlib.Core.List.{List, [], _∷_}
 use native.Mathlib.Omega.{arith}
 use lib.Dec.{leb, ltb}
@@ -14,9 +14,9 @@ use Rattle.rules.specs.declared.answers.Refusal.{Refusal}
 use Rattle.rules.specs.declared.answers.Answer.{Answer}
 use Rattle.rules.specs.Limits.{historyRows}
 use Rattle.rules.specs.Lists.{all}
-use Rattle.rules.specs.Tables.{recordShape}
-use Rattle.rules.specs.State.{Book, view, historyOf}
-use Rattle.rules.specs.Replies.{numberOf, told, plain}
+use Rattle.rules.specs.Tables.{rowsOf, recordShape}
+use Rattle.rules.specs.State.{State, Book, view, historyOf}
+use Rattle.rules.specs.Replies.{numberOf, told, plain, smallest}
 use Rattle.rules.specs.Refusals.{traceRefusals}
 use Rattle.rules.specs.Frame.{inFrame}
 use Rattle.rules.specs.History.{historyInFrame, withdrawals}
@@ -29,28 +29,38 @@ use Rattle.desk.specs.Parts.{isDone}
 use Rattle.desk.proofs.Chains.{Entry, chain, notBelow, chain-told, done-number, refused-number}
 use Rattle.rules.proofs.Books.{Framed, framed}
 use Rattle.lots.specs.Traces.{beforePayment}
-use Rattle.history.specs.Tracing.{traceOutcomeOf, traceNumberFor}
+use Rattle.records.specs.Test.{historyFrame}
+use Rattle.history.specs.Tracing.{traceOutcomeOf, historyRefusals, traceNumberFor}
 use Rattle.replays.specs.Replaying.{CanTrace, Traces}
-use Rattle.records.proofs.Counting.{not-both}
+use Rattle.records.proofs.Counting.{history-whole}
 use Rattle.replays.proofs.Payments.{no-payment}
 
 -- ---- the table of refusals
-abbrev pub traceEntries : Book → ℕ → ℕ → Nonce → List Entry
-traceEntries b rows places n =
-    (Refusal.BadBook, not (inFrame b && historyInFrame (historyOf b)))
-    ∷ (Refusal.TableSmall, ltb rows (b .desk .records) || ltb places (b .desk .records))
-    ∷ (Refusal.NoSuchPayment, leb (b .desk .records) (length (beforePayment (n .0) (historyOf b))))
+abbrev pub traceEntries : Bool → ℕ → ℕ → ℕ → ℕ → List Entry
+traceEntries isHistory records rows places at =
+    (Refusal.BadBook, not isHistory)
+    ∷ (Refusal.TableSmall, ltb rows records || ltb places records)
+    ∷ (Refusal.NoSuchPayment, leb records at)
     ∷ []
 
-pub trace-told : (b : Book) (rows places : ℕ) (n : Nonce) → told (chain (traceEntries b rows places n)) ≡ plain (traceNumberFor b rows places n)
-unfolding traceNumberFor traceRefusals view numberOf notBelow all
-trace-told b rows places n =
-    rw (
-      not-both (inFrame b) (historyInFrame (historyOf b)),
-      ← no-payment (n .0) (historyOf b),
-      length-rows recordShape (b .desk .records) (b .history),
-    )
-    (chain-told (traceEntries b rows places n) refl)
+pub history-told : (history : List ℕ) (records rows places : ℕ) (n : Nonce) (s : State) → s .history ≡ rowsOf recordShape records history
+    → told (chain (traceEntries (historyFrame history records) records rows places (length (beforePayment (n .0) (rowsOf recordShape records history)))))
+    ≡ plain (smallest (historyRefusals history records rows places s n))
+unfolding traceRefusals numberOf notBelow all
+history-told history records rows places n s e =
+    rw (e, ← no-payment (n .0) (rowsOf recordShape records history), length-rows recordShape records history)
+    (chain-told (traceEntries (historyFrame history records) records rows places (length (beforePayment (n .0) (rowsOf recordShape records history)))) refl)
+
+-- behind the frame's test it tells the number that the rules give
+pub trace-told : (b : Book) (rows places : ℕ) (n : Nonce) (a found : Answer)
+    → told found ≡ plain (smallest (historyRefusals (b .history) (b .desk .records) rows places (view b) n))
+    → a ≡ cond (not (inFrame b)) (Answer.Refused Refusal.BadBook) found → told a ≡ plain (traceNumberFor b rows places n)
+unfolding traceNumberFor traceRefusals numberOf notBelow all
+trace-told b rows places n a found h p = go (inFrame b) refl p
+  where
+    go : (t : Bool) → inFrame b ≡ t → a ≡ cond (not t) (Answer.Refused Refusal.BadBook) found → told a ≡ plain (traceNumberFor b rows places n)
+    go true f q = rw (q, f, ← history-whole b f) h
+    go false f q = rw (q, f) (chain-told ((Refusal.BadBook, true) ∷ (Refusal.TableSmall, _) ∷ (Refusal.NoSuchPayment, _) ∷ []) refl)
 
 -- ---- the two ends
 module _ (b : Book) (work out : List Lot) (n : Nonce) (a : Answer) (tells : told a ≡ plain (traceNumberFor b (length work) (length out) n)) where

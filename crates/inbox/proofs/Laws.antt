@@ -10,6 +10,7 @@ use lib.ListN.{length, take, drop, length-append, length-drop}
 use lib.Seq.{length-take-le}
 use borrow.Author.Tests.{le-leb, lt-ltb, le-ltb, ltb-true, eq-eqb, ne-eqb, eqb-true, eqb-false}
 use Rattle.rules.specs.declared.rows.Deposit.{Deposit}
+use Rattle.rules.specs.declared.rows.DepositNumber.{DepositNumber}
 use Rattle.rules.specs.declared.rows.Record.{Record}
 use Rattle.rules.specs.declared.calls.Call.{Call}
 use Rattle.rules.specs.declared.calls.ClaimFields.{ClaimFields}
@@ -17,22 +18,21 @@ use Rattle.rules.specs.declared.answers.Refusal.{Refusal}
 use Rattle.rules.specs.Limits.{ceiling, highestNumber, isMember, isAsset, isAmount}
 use Rattle.rules.specs.Lists.{all, any, same, indexOf}
 use Rattle.rules.specs.Tables.{Edit, rowsOf, lay, edited, editedTable, depositShape, recordShape}
-use Rattle.rules.specs.State.{Book, view, laid, deskOf, inboxOf, historyOf}
-use Rattle.rules.specs.Replies.{numberOf, told, plain}
-use Rattle.rules.specs.Refusals.{refusals, full}
+use Rattle.rules.specs.State.{State, Book, view, laid, deskOf, inboxOf, historyOf}
+use Rattle.rules.specs.Replies.{numberOf, told, plain, smallest}
+use Rattle.rules.specs.Refusals.{table, refusals, full, fulls}
 use Rattle.rules.specs.Effects.{total, matches, deposited, effect, balancesAfter, holdersAfter, inboxEdit, outsideAfter, recordsOf}
-use Rattle.rules.specs.Frame.{inFrame}
-use Rattle.rules.specs.Answer.{frameTest, replyNumber, bookOf}
+use Rattle.rules.specs.Answer.{done, bookOf}
 use Rattle.rules.proofs.Laying.{RoomFor, length-rows, lay-edited}
 use Rattle.rules.proofs.Shapes.{depositSound}
 use Rattle.rules.specs.Facts.{Accepted, DepositFit, ClaimFit}
-use Rattle.rules.proofs.Accepts.{fit, accepted-frame}
+use Rattle.rules.proofs.Accepts.{fit, roomy, accepted-frame}
 use Rattle.tables.specs.Rows.{bare, putAt, takenOut, placeOf}
 use Rattle.desk.specs.Parts.{ofEight}
-use Rattle.desk.proofs.Chains.{Entry, chain, notBelow, chain-told, chain-frame}
+use Rattle.desk.proofs.Chains.{Entry, chain, notBelow, chain-told}
 use Rattle.rules.proofs.Books.{none-found, index-found, Framed, framed, outbox-kept, history-kept, inbox-count, outbox-count, flight-count, history-count}
 use Rattle.desk.proofs.Books.{record-added}
-use Rattle.inbox.specs.After.{depositedDesk, claimedDesk, rowOf, isGap, passesCeiling, CanDeposit, CanClaim}
+use Rattle.inbox.specs.After.{depositedDesk, claimedDesk, rowOf, isGap, passesCeiling, isUnclaimed, CanDeposit, CanClaim}
 
 -- ---- tests on any two numbers
 -- two orders that say the same
@@ -60,21 +60,22 @@ pub ceiling-with : (sum amount : ℕ) → amount ≤ ceiling → ltb (ceiling - 
 ceiling-with sum amount h = same-order (ceiling - amount) sum ceiling (sum + amount) (λ g. omega arith) (λ g. omega arith)
 
 -- ---- deposit
-abbrev pub depositEntries : Book → Deposit → List Entry
-depositEntries b x =
-    (Refusal.BadBook, not (inFrame b))
-    ∷ (Refusal.BadMember, not (isMember (x .member)))
+abbrev pub depositEntries : List ℕ → DepositNumber → ℕ → Deposit → List Entry
+depositEntries lifetime last unclaimed x =
+    (Refusal.BadMember, not (isMember (x .member)))
     ∷ (Refusal.BadAsset, not (isAsset (x .asset)))
     ∷ (Refusal.BadAmount, not (isAmount (x .amount)))
-    ∷ (Refusal.Old, leb (x .number .0) (b .desk .last .0))
-    ∷ (Refusal.Gap, isGap (b .desk .last .0) (x .number .0))
-    ∷ (Refusal.Ceiling, passesCeiling (ofEight (b .desk .lifetime) (x .asset)) (x .amount))
-    ∷ (Refusal.InboxFull, leb 64 (b .desk .unclaimed))
+    ∷ (Refusal.Old, leb (x .number .0) (last .0))
+    ∷ (Refusal.Gap, isGap (last .0) (x .number .0))
+    ∷ (Refusal.Ceiling, passesCeiling (ofEight lifetime (x .asset)) (x .amount))
+    ∷ (Refusal.InboxFull, leb 64 unclaimed)
     ∷ []
 
-pub deposit-told : (b : Book) (x : Deposit) → told (chain (depositEntries b x)) ≡ plain (replyNumber b (Call.Deposit x))
-unfolding replyNumber frameTest refusals full total view numberOf notBelow all
-deposit-told b x = rw (length-rows depositShape (b .desk .unclaimed) (b .inbox)) (chain-told (depositEntries b x) refl)
+pub deposit-told : (lifetime : List ℕ) (last : DepositNumber) (unclaimed : ℕ) (x : Deposit) (s : State)
+    → s .outside .lifetime ≡ lifetime → s .outside .last ≡ last → length (s .inbox) ≡ unclaimed
+    → told (chain (depositEntries lifetime last unclaimed x)) ≡ plain (smallest (table s (Call.Deposit x)))
+unfolding refusals fulls full total numberOf notBelow all
+deposit-told lifetime last unclaimed x s p q r = rw (p, q, r) (chain-told (depositEntries lifetime last unclaimed x) refl)
 
 pub can-deposit : (b : Book) (x : Deposit) → Accepted b (Call.Deposit x) → CanDeposit (b .desk) x
 unfolding view
@@ -82,7 +83,7 @@ can-deposit b x a =
     let f : Framed b = framed b (accepted-frame b (Call.Deposit x) a) in
     let q : DepositFit (view b) x = fit b (Call.Deposit x) a in
     let l : length (inboxOf b) ≡ b .desk .unclaimed = length-rows depositShape (b .desk .unclaimed) (b .inbox) in
-    record { asset = q .asset; amount = q .amount .high; lifetime = f .lifetime; unclaimed = omega (arith, q .room) }
+    record { asset = q .asset; amount = q .amount .high; lifetime = f .lifetime; unclaimed = omega (arith, roomy b (Call.Deposit x) a .room) }
 
 -- one deposit more at the end of the inbox
 deposit-added : (b : Book) (x : Deposit) → Framed b → b .desk .unclaimed < 64
@@ -94,7 +95,7 @@ deposit-added b x f h =
 
 pub deposit-laid : (b : Book) (x : Deposit) → Framed b → b .desk .unclaimed < 64
     → bookOf (depositedDesk (b .desk) x) (putAt (b .desk .unclaimed * 4) (x .number .0 ∷ x .asset ∷ x .amount ∷ x .member ∷ []) (b .inbox)) (b .outbox) (b .history)
-    ≡ laid (effect (Call.Deposit x) (view b)) b
+    ≡ done (Call.Deposit x) b
 unfolding laid deskOf effect balancesAfter holdersAfter inboxEdit edited outsideAfter deposited recordsOf depositedDesk view
 deposit-laid b x f h =
     rw (deposit-added b x f h, outbox-kept b f, history-kept b f, length-append (inboxOf b) (x ∷ []), inbox-count b f, outbox-count b f, flight-count b f, history-count b f [], add-zero)
@@ -131,28 +132,31 @@ unfolding placeOf
 place-is b c f = rw (le-leb (b .desk .unclaimed * 4) (length (b .inbox)) (omega arith)) (place-rows c (b .desk .unclaimed) (b .inbox) (omega arith))
 
 -- ---- claim
--- the entries after BadBook, with this for whether no deposit matches
-abbrev pub claimTests : Book → ClaimFields → Bool → List Entry
-claimTests b c none =
+abbrev pub claimEntries : Bool → ℕ → ClaimFields → List Entry
+claimEntries waits records c =
     (Refusal.BadMember, not (isMember (c .member)))
     ∷ (Refusal.BadAsset, not (isAsset (c .asset)))
     ∷ (Refusal.BadAmount, not (isAmount (c .amount)))
-    ∷ (Refusal.NoSuchDeposit, none)
-    ∷ (Refusal.HistoryFull, leb 1024 (b .desk .records))
+    ∷ (Refusal.NoSuchDeposit, not waits)
+    ∷ (Refusal.HistoryFull, leb 1024 records)
     ∷ []
 
-pub claim-told : (b : Book) (c : ClaimFields)
-    → told (chain ((Refusal.BadBook, not (inFrame b)) ∷ claimTests b c (eqb (placeOf (rowOf c) (b .desk .unclaimed) (b .inbox)) (b .desk .unclaimed))))
-    ≡ plain (replyNumber b (Call.Claim c))
-unfolding replyNumber frameTest refusals full view numberOf notBelow all
-claim-told b c =
-    ap told (chain-frame (inFrame b) (claimTests b c (eqb (placeOf (rowOf c) (b .desk .unclaimed) (b .inbox)) (b .desk .unclaimed))) (claimTests b c (not (any (matches c) (inboxOf b))))
-    (λ h. ap (claimTests b c) (found h)))
-    ∙ rw (length-rows recordShape (b .desk .records) (b .history)) (chain-told ((Refusal.BadBook, not (inFrame b)) ∷ claimTests b c (not (any (matches c) (inboxOf b)))) refl)
+pub claim-told : (waits : Bool) (records : ℕ) (c : ClaimFields) (s : State) → any (matches c) (s .inbox) ≡ waits → length (s .history) ≡ records
+    → told (chain (claimEntries waits records c)) ≡ plain (smallest (table s (Call.Claim c)))
+unfolding refusals fulls full numberOf notBelow all
+claim-told waits records c s p q = rw (p, q) (chain-told (claimEntries waits records c) refl)
+
+-- in frame, a deposit is found in the table where one of the state matches
+pub waits-is : (b : Book) (c : ClaimFields) → Framed b → any (matches c) (view b .inbox) ≡ isUnclaimed c (b .desk .unclaimed) (b .inbox)
+unfolding view
+waits-is b c f =
+    let e : eqb (placeOf (rowOf c) (b .desk .unclaimed) (b .inbox)) (b .desk .unclaimed) ≡ not (any (matches c) (inboxOf b)) =
+    rw (place-is b c f, none-found (matches c) (inboxOf b), length-rows depositShape (b .desk .unclaimed) (b .inbox)) in
+    twice (any (matches c) (inboxOf b)) ∙ ap not (sym e)
   where
-    found : inFrame b ≡ true → eqb (placeOf (rowOf c) (b .desk .unclaimed) (b .inbox)) (b .desk .unclaimed) ≡ not (any (matches c) (inboxOf b))
-    found h =
-        rw (place-is b c (framed b h), none-found (matches c) (inboxOf b), length-rows depositShape (b .desk .unclaimed) (b .inbox))
+    twice : (t : Bool) → t ≡ not (not t)
+    twice true = refl
+    twice false = refl
 
 -- the place of a claimed deposit is one of the used rows
 pub claim-place : (b : Book) (c : ClaimFields) → Accepted b (Call.Claim c) → indexOf (matches c) (inboxOf b) < b .desk .unclaimed
@@ -174,7 +178,7 @@ can-claim b c a =
       amount = q .amount .high;
       balances = f .balances;
       unclaimed = omega (arith, claim-place b c a);
-      records = omega (arith, q .room);
+      records = omega (arith, roomy b (Call.Claim c) a .room);
     }
 
 -- the claimed row leaves: "the rest keeping their order", and the last used row becomes zeros
@@ -195,7 +199,7 @@ claim-count b i h =
 pub claim-laid : (b : Book) (c : ClaimFields) → Framed b → indexOf (matches c) (inboxOf b) < b .desk .unclaimed → b .desk .records < 1024
     → bookOf (claimedDesk (b .desk) c) (takenOut 4 (indexOf (matches c) (inboxOf b)) (b .desk .unclaimed) (b .inbox)) (b .outbox)
     (putAt (b .desk .records * 5) (1 ∷ c .asset ∷ c .amount ∷ c .member ∷ c .number .0 ∷ []) (b .history))
-    ≡ laid (effect (Call.Claim c) (view b)) b
+    ≡ done (Call.Claim c) b
 unfolding laid deskOf effect balancesAfter holdersAfter inboxEdit outsideAfter recordsOf claimedDesk view
 claim-laid b c f h k =
     let r : Record = record { kind = 1; asset = c .asset; amount = c .amount; first = c .member; second = c .number .0 } in

@@ -1,9 +1,9 @@
 -- The desk after a deposit and after a claim: what the rules do to its numbers, and the counts.
 use Prim.Native.Nat.{ℕ, _+_, _-_, _≤_, _<_}
 use mathlib.Core.Path.{_≡_}
-use mathlib.Core.Bool.{Bool, true, _||_}
+use mathlib.Core.Bool.{Bool, true, not, _||_}
 use mathlib.Core.List.{List, [], _∷_}
-use lib.Dec.{ltb}
+use lib.Dec.{ltb, eqb}
 use Rattle.rules.specs.declared.rows.Deposit.{Deposit}
 use Rattle.rules.specs.declared.rows.DepositNumber.{DepositNumber}
 use Rattle.rules.specs.declared.desk.Desk.{Desk}
@@ -13,6 +13,7 @@ use Rattle.rules.specs.Lists.{all}
 use Rattle.rules.specs.Frame.{upToCeiling}
 use Rattle.rules.specs.Effects.{raised, credit}
 use Rattle.rules.specs.Facts.{Within}
+use Rattle.tables.specs.Rows.{placeOf}
 use Rattle.desk.specs.Kept.{withLists, withCounts}
 
 -- the desk with another last number
@@ -56,6 +57,10 @@ claimedDesk d c =
 -- a claim's four numbers as the row that it looks for
 abbrev pub rowOf : ClaimFields → List ℕ
 rowOf c = c .number .0 ∷ c .asset ∷ c .amount ∷ c .member ∷ []
+
+-- one of the first n rows is that
+abbrev pub isUnclaimed : ClaimFields → ℕ → List ℕ → Bool
+isUnclaimed c n inbox = not (eqb (placeOf (rowOf c) n inbox) n)
 
 -- 10 Gap: above last + 1, or above 4,294,967,295
 abbrev pub isGap : ℕ → ℕ → Bool

@@ -1,5 +1,5 @@
-// The inbox: deposit and claim. Each call is its table of refusals (`.._reply`), which tests the whole frame, and
-// then what is done where nothing refuses it (`.._done`). Each says in one equation, of all three tables that it
+// The inbox: deposit and claim. Each call tests the whole frame, then asks its table of refusals (`.._reply`), and
+// then does what is done where nothing refuses it (`.._done`). Each says in one equation, of all three tables that it
 // is lent, what it answers and what it leaves of the desk and every row.
 use desk::answers::is_done;
 use desk::answers::refuse;
@@ -10,42 +10,37 @@ use desk::fields::is_member;
 use desk::fields::of_eight;
 use desk::keep::set_balance;
 use desk::keep::set_of_eight;
-use frames::Counts;
-use frames::counts_of;
-use frames::in_frame;
+use frames::framed;
 use rules::answers::Answer;
 use rules::answers::Answered;
 use rules::answers::Refusal;
 use rules::calls::ClaimFields;
 use rules::desk::Desk;
 use rules::rows::Deposit;
+use rules::rows::DepositNumber;
 use tables::find_row;
 use tables::put_row;
 use tables::take_out;
 ghost use mathlib.Core.Path.{_≡_};
 ghost use Rattle.rules.specs.declared.calls.Call.{Call};
 ghost use Rattle.rules.specs.Facts.{Accepted};
-ghost use Rattle.rules.specs.Replies.{told, plain};
-ghost use Rattle.rules.specs.Answer.{answer, replyNumber, bookOf, outcomeOf};
-ghost use Rattle.frames.specs.Parts.{deskWith};
-ghost use Rattle.inbox.specs.After.{isGap, passesCeiling, CanDeposit, CanClaim, depositedDesk, claimedDesk};
+ghost use lib.ListN.{length};
+ghost use Rattle.rules.specs.State.{State};
+ghost use Rattle.rules.specs.Replies.{told, plain, smallest};
+ghost use Rattle.rules.specs.Refusals.{table};
+ghost use Rattle.rules.specs.Lists.{any};
+ghost use Rattle.rules.specs.Effects.{matches};
+ghost use Rattle.rules.specs.Answer.{answer, bookOf, outcomeOf};
+ghost use Rattle.inbox.specs.After.{isGap, passesCeiling, isUnclaimed, CanDeposit, CanClaim, depositedDesk, claimedDesk};
 
 // Deposit (number, asset, amount, member): added at the end of the inbox.
 pub fn deposit(d: Desk, inbox: &mut [u64], outbox: &[u64], history: &[u64], x: Deposit) -> Answered
     ensures { λ r. ⌜ outcomeOf r (now (inbox .exit)) (now (outbox .entry)) (now (history .entry)) ≡ answer (bookOf d (now (inbox .entry)) (now (outbox .entry)) (now (history .entry))) (Call.Deposit x) ⌝ }
 {
-    let counts = counts_of(d);
-    let reply = deposit_reply(
-        &d.balances,
-        &d.holders,
-        &d.lifetime,
-        &d.settled,
-        counts,
-        inbox,
-        outbox,
-        history,
-        x,
-    );
+    let is_framed = framed(d, inbox, outbox, history);
+    let last = d.last;
+    let found = deposit_reply(&d.lifetime, last, d.unclaimed, x);
+    let reply = refuse(!is_framed, Refusal::BadBook, found);
     if !is_done(reply) {
         return Answered {
             answer: reply,
@@ -77,23 +72,18 @@ pub fn deposit_done(
     }
 }
 
-// The deposit's table of refusals, the largest number first.
-pub fn deposit_reply<'a>(
-    balances: &'a [u64; 128],
-    holders: &'a [u64; 8],
-    lifetime: &'a [u64; 8],
-    settled: &'a [u64; 8],
-    counts: Counts,
-    inbox: &[u64],
-    outbox: &[u64],
-    history: &[u64],
+// The deposit's table of refusals, the largest number first, for a book in frame. It reads the lifetime totals, the
+// last number and how many are unclaimed.
+pub fn deposit_reply(
+    lifetime: &[u64; 8],
+    last: DepositNumber,
+    unclaimed: usize,
     x: Deposit,
 ) -> Answer
-    ensures { λ r. ⌜ told r ≡ plain (replyNumber (bookOf (deskWith (now (balances .entry)) (now (holders .entry)) (now (lifetime .entry)) (now (settled .entry)) counts) (now (inbox .entry)) (now (outbox .entry)) (now (history .entry))) (Call.Deposit x)) ⌝ }
+    ensures { λ r. ⌜ ((s : State) → s .outside .lifetime ≡ now (lifetime .entry) → s .outside .last ≡ last → length (s .inbox) ≡ unclaimed → told r ≡ plain (smallest (table s (Call.Deposit x)))) ⌝ }
 {
-    let last = counts.last;
     let number = x.number;
-    let r = refuse(64 <= counts.unclaimed, Refusal::InboxFull, Answer::Done);
+    let r = refuse(64 <= unclaimed, Refusal::InboxFull, Answer::Done);
     let r = refuse(
         passes_ceiling(of_eight(lifetime, x.asset), x.amount),
         Refusal::Ceiling,
@@ -103,18 +93,7 @@ pub fn deposit_reply<'a>(
     let r = refuse(number.0 <= last.0, Refusal::Old, r);
     let r = refuse(!is_amount(x.amount), Refusal::BadAmount, r);
     let r = refuse(!is_asset(x.asset), Refusal::BadAsset, r);
-    let r = refuse(!is_member(x.member), Refusal::BadMember, r);
-    let framed = in_frame(
-        balances,
-        holders,
-        lifetime,
-        settled,
-        counts,
-        inbox,
-        outbox,
-        history,
-    );
-    refuse(!framed, Refusal::BadBook, r)
+    refuse(!is_member(x.member), Refusal::BadMember, r)
 }
 
 // Whether a deposit number lies above last + 1 or above 4,294,967,295, on any two numbers.
@@ -162,18 +141,10 @@ pub fn claim(
 ) -> Answered
     ensures { λ r. ⌜ outcomeOf r (now (inbox .exit)) (now (outbox .entry)) (now (history .exit)) ≡ answer (bookOf d (now (inbox .entry)) (now (outbox .entry)) (now (history .entry))) (Call.Claim c) ⌝ }
 {
-    let counts = counts_of(d);
-    let answer = claim_reply(
-        &d.balances,
-        &d.holders,
-        &d.lifetime,
-        &d.settled,
-        counts,
-        inbox,
-        outbox,
-        history,
-        c,
-    );
+    let is_framed = framed(d, inbox, outbox, history);
+    let waits = is_unclaimed(inbox, d.unclaimed, c);
+    let found = claim_reply(waits, d.records, c);
+    let answer = refuse(!is_framed, Refusal::BadBook, found);
     if !is_done(answer) {
         return Answered { answer, desk: d };
     }
@@ -205,40 +176,25 @@ pub fn claim_done(
     }
 }
 
-// The claim's table of refusals, the largest number first. No unclaimed deposit matches where its
-// place is past the last.
-pub fn claim_reply<'a>(
-    balances: &'a [u64; 128],
-    holders: &'a [u64; 8],
-    lifetime: &'a [u64; 8],
-    settled: &'a [u64; 8],
-    counts: Counts,
-    inbox: &[u64],
-    outbox: &[u64],
-    history: &[u64],
-    c: ClaimFields,
-) -> Answer
-    ensures { λ r. ⌜ told r ≡ plain (replyNumber (bookOf (deskWith (now (balances .entry)) (now (holders .entry)) (now (lifetime .entry)) (now (settled .entry)) counts) (now (inbox .entry)) (now (outbox .entry)) (now (history .entry))) (Call.Claim c)) ⌝ }
+// Whether one of the first n rows is an unclaimed deposit with exactly the claim's four fields.
+pub fn is_unclaimed(inbox: &[u64], n: usize, c: ClaimFields) -> bool
+    ensures { λ r. ⌜ r ≡ isUnclaimed c n (now (inbox .entry)) ⌝ }
 {
     let number = c.number;
     let row = [number.0, c.asset, c.amount, c.member];
-    let place = find_row(inbox, counts.unclaimed, &row);
-    let r = refuse(1024 <= counts.records, Refusal::HistoryFull, Answer::Done);
-    let r = refuse(place == counts.unclaimed, Refusal::NoSuchDeposit, r);
+    find_row(inbox, n, &row) != n
+}
+
+// The claim's table of refusals, the largest number first, for a book in frame. It reads whether such a deposit
+// waits and how many records there are.
+pub fn claim_reply(waits: bool, records: usize, c: ClaimFields) -> Answer
+    ensures { λ r. ⌜ ((s : State) → any (matches c) (s .inbox) ≡ waits → length (s .history) ≡ records → told r ≡ plain (smallest (table s (Call.Claim c)))) ⌝ }
+{
+    let r = refuse(1024 <= records, Refusal::HistoryFull, Answer::Done);
+    let r = refuse(!waits, Refusal::NoSuchDeposit, r);
     let r = refuse(!is_amount(c.amount), Refusal::BadAmount, r);
     let r = refuse(!is_asset(c.asset), Refusal::BadAsset, r);
-    let r = refuse(!is_member(c.member), Refusal::BadMember, r);
-    let framed = in_frame(
-        balances,
-        holders,
-        lifetime,
-        settled,
-        counts,
-        inbox,
-        outbox,
-        history,
-    );
-    refuse(!framed, Refusal::BadBook, r)
+    refuse(!is_member(c.member), Refusal::BadMember, r)
 }
 
 // The balance grows, one deposit fewer is unclaimed, and there is one record more.

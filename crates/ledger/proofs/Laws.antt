@@ -1,5 +1,5 @@
 -- What transfer, grant and sign refuse, as the code's chain; and what a done one lays back.
-use Prim.Native.Nat.{_+_, _-_, _*_, _≤_, _<_}
+use Prim.Native.Nat.{ℕ, _+_, _-_, _*_, _≤_, _<_}
 use mathlib.Core.Path.{_≡_, refl, sym}
 use mathlib.Core.Bool.{Bool, true, false, not, _||_}
 use mathlib.Core.List.{List, [], _∷_}
@@ -17,16 +17,16 @@ use Rattle.rules.specs.declared.answers.Answer.{Answer}
 use Rattle.rules.specs.Limits.{ceiling, isMember, isAsset, isDomain, isAmount}
 use Rattle.rules.specs.Lists.{all}
 use Rattle.rules.specs.Tables.{edited, recordShape}
-use Rattle.rules.specs.State.{Book, view, laid, deskOf, historyOf}
-use Rattle.rules.specs.Replies.{numberOf, told, plain}
-use Rattle.rules.specs.Refusals.{refusals, full}
+use Rattle.rules.specs.State.{State, Book, view, laid, deskOf, historyOf}
+use Rattle.rules.specs.Replies.{numberOf, told, plain, smallest}
+use Rattle.rules.specs.Refusals.{table, refusals, full, fulls}
 use Rattle.rules.specs.Effects.{changesNothing, balance, debit, holder, effect, balancesAfter, holdersAfter, inboxEdit, outsideAfter, recordsOf}
-use Rattle.rules.specs.Frame.{upToCeiling, inFrame}
-use Rattle.rules.specs.Answer.{frameTest, replyNumber, answer, bookOf, outcomeOf, doneAnswer, piecesOf}
+use Rattle.rules.specs.Frame.{upToCeiling}
+use Rattle.rules.specs.Answer.{done, replyNumber, answer, bookOf, outcomeOf, doneAnswer, piecesOf}
 use Rattle.rules.proofs.Laying.{length-rows}
 use Rattle.rules.specs.Facts.{Accepted, TransferFit, GrantFit}
 use Rattle.rules.proofs.Tests.{all-set}
-use Rattle.rules.proofs.Accepts.{fit, accepted-frame}
+use Rattle.rules.proofs.Accepts.{fit, roomy, accepted-frame}
 use Rattle.tables.specs.Rows.{putAt}
 use Rattle.desk.specs.Parts.{ofEight, isDone}
 use Rattle.desk.proofs.Chains.{Entry, chain, notBelow, chain-told}
@@ -35,20 +35,20 @@ use Rattle.desk.proofs.Books.{balance-low, refuses, accepts, lays-plain, record
 use Rattle.ledger.specs.After.{transferredDesk, grantedDesk, CanTransfer, CanGrant}
 
 -- ---- the tables of refusals
-abbrev pub transferEntries : Book → TransferFields → List Entry
-transferEntries b t =
-    (Refusal.BadBook, not (inFrame b))
-    ∷ (Refusal.BadMember, not (isMember (t .from)) || not (isMember (t .to)))
+abbrev pub transferEntries : List ℕ → ℕ → TransferFields → List Entry
+transferEntries balances records t =
+    (Refusal.BadMember, not (isMember (t .from)) || not (isMember (t .to)))
     ∷ (Refusal.BadAsset, not (isAsset (t .asset)))
     ∷ (Refusal.BadAmount, not (isAmount (t .amount)))
     ∷ (Refusal.SameMember, eqb (t .from) (t .to))
-    ∷ (Refusal.Short, ltb (balance (b .desk .balances) (t .from) (t .asset)) (t .amount))
-    ∷ (Refusal.HistoryFull, leb 1024 (b .desk .records))
+    ∷ (Refusal.Short, ltb (balance balances (t .from) (t .asset)) (t .amount))
+    ∷ (Refusal.HistoryFull, leb 1024 records)
     ∷ []
 
-pub transfer-told : (b : Book) (t : TransferFields) → told (chain (transferEntries b t)) ≡ plain (replyNumber b (Call.Transfer t))
-unfolding replyNumber frameTest refusals full view numberOf notBelow all
-transfer-told b t = rw (length-rows recordShape (b .desk .records) (b .history)) (chain-told (transferEntries b t) refl)
+pub transfer-told : (balances : List ℕ) (records : ℕ) (t : TransferFields) (s : State) → s .balances ≡ balances → length (s .history) ≡ records
+    → told (chain (transferEntries balances records t)) ≡ plain (smallest (table s (Call.Transfer t)))
+unfolding refusals fulls full numberOf notBelow all
+transfer-told balances records t s p q = rw (p, q) (chain-told (transferEntries balances records t) refl)
 
 -- ---- what makes it safe, and what is laid
 pub can-transfer : (b : Book) (t : TransferFields) → Accepted b (Call.Transfer t) → CanTransfer (b .desk) t
@@ -64,12 +64,12 @@ can-transfer b t a =
       amount = q .amount .high;
       enough = q .enough;
       balances = f .balances;
-      records = omega (arith, q .room);
+      records = omega (arith, roomy b (Call.Transfer t) a .room);
     }
 
 pub transfer-laid : (b : Book) (t : TransferFields) → Framed b → b .desk .records < 1024
     → bookOf (transferredDesk (b .desk) t) (b .inbox) (b .outbox) (putAt (b .desk .records * 5) (2 ∷ t .asset ∷ t .amount ∷ t .from ∷ t .to ∷ []) (b .history))
-    ≡ laid (effect (Call.Transfer t) (view b)) b
+    ≡ done (Call.Transfer t) b
 unfolding laid deskOf effect balancesAfter holdersAfter inboxEdit edited outsideAfter recordsOf transferredDesk view
 transfer-laid b t f h =
     rw (
@@ -92,30 +92,30 @@ sent-low d t c =
     (le-leb (balance (d .balances) (t .from) (t .asset) - t .amount) ceiling (omega arith))
 
 -- ---- grant
-abbrev pub grantEntries : Book → GrantFields → List Entry
-grantEntries b g =
-    (Refusal.BadBook, not (inFrame b))
-    ∷ (Refusal.BadMember, not (isMember (g .from)) || not (isMember (g .to)))
+abbrev pub grantEntries : List ℕ → ℕ → GrantFields → List Entry
+grantEntries holders records g =
+    (Refusal.BadMember, not (isMember (g .from)) || not (isMember (g .to)))
     ∷ (Refusal.BadDomain, not (isDomain (g .domain)))
     ∷ (Refusal.SameMember, eqb (g .from) (g .to))
-    ∷ (Refusal.NotHolder, not (eqb (ofEight (b .desk .holders) (g .domain)) (g .from)))
-    ∷ (Refusal.HistoryFull, leb 1024 (b .desk .records))
+    ∷ (Refusal.NotHolder, not (eqb (ofEight holders (g .domain)) (g .from)))
+    ∷ (Refusal.HistoryFull, leb 1024 records)
     ∷ []
 
-pub grant-told : (b : Book) (g : GrantFields) → told (chain (grantEntries b g)) ≡ plain (replyNumber b (Call.Grant g))
-unfolding replyNumber frameTest refusals full holder view numberOf notBelow all
-grant-told b g = rw (length-rows recordShape (b .desk .records) (b .history)) (chain-told (grantEntries b g) refl)
+pub grant-told : (holders : List ℕ) (records : ℕ) (g : GrantFields) (s : State) → s .holders ≡ holders → length (s .history) ≡ records
+    → told (chain (grantEntries holders records g)) ≡ plain (smallest (table s (Call.Grant g)))
+unfolding refusals fulls full holder numberOf notBelow all
+grant-told holders records g s p q = rw (p, q) (chain-told (grantEntries holders records g) refl)
 
 pub can-grant : (b : Book) (g : GrantFields) → Accepted b (Call.Grant g) → CanGrant (b .desk) g
 unfolding view
 can-grant b g a =
     let q : GrantFit (view b) g = fit b (Call.Grant g) a in
     let l : length (historyOf b) ≡ b .desk .records = length-rows recordShape (b .desk .records) (b .history) in
-    record { domain = q .domain; records = omega (arith, q .room) }
+    record { domain = q .domain; records = omega (arith, roomy b (Call.Grant g) a .room) }
 
 pub grant-laid : (b : Book) (g : GrantFields) → Framed b → b .desk .records < 1024
     → bookOf (grantedDesk (b .desk) g) (b .inbox) (b .outbox) (putAt (b .desk .records * 5) (4 ∷ g .domain ∷ 1 ∷ g .from ∷ g .to ∷ []) (b .history))
-    ≡ laid (effect (Call.Grant g) (view b)) b
+    ≡ done (Call.Grant g) b
 unfolding laid deskOf effect balancesAfter holdersAfter inboxEdit edited outsideAfter recordsOf grantedDesk view
 grant-laid b g f h =
     rw (
@@ -129,17 +129,16 @@ grant-laid b g f h =
     )
 
 -- ---- sign
-abbrev pub signEntries : Book → SignFields → List Entry
-signEntries b s =
-    (Refusal.BadBook, not (inFrame b))
-    ∷ (Refusal.BadMember, not (isMember (s .member)))
-    ∷ (Refusal.BadDomain, not (isDomain (s .domain)))
-    ∷ (Refusal.NotHolder, not (eqb (ofEight (b .desk .holders) (s .domain)) (s .member)))
+abbrev pub signEntries : List ℕ → SignFields → List Entry
+signEntries holders g =
+    (Refusal.BadMember, not (isMember (g .member)))
+    ∷ (Refusal.BadDomain, not (isDomain (g .domain)))
+    ∷ (Refusal.NotHolder, not (eqb (ofEight holders (g .domain)) (g .member)))
     ∷ []
 
-pub sign-told : (b : Book) (s : SignFields) → told (chain (signEntries b s)) ≡ plain (replyNumber b (Call.Sign s))
-unfolding replyNumber frameTest refusals holder view numberOf notBelow all
-sign-told b s = chain-told (signEntries b s) refl
+pub sign-told : (holders : List ℕ) (g : SignFields) (s : State) → s .holders ≡ holders → told (chain (signEntries holders g)) ≡ plain (smallest (table s (Call.Sign g)))
+unfolding refusals fulls holder numberOf notBelow all
+sign-told holders g s p = rw p (chain-told (signEntries holders g) refl)
 
 pub sign-answers : (b : Book) (s : SignFields) (a : Answer) → told a ≡ plain (replyNumber b (Call.Sign s))
     → outcomeOf (record { answer = a; desk = b .desk }) (b .inbox) (b .outbox) (b .history) ≡ answer b (Call.Sign s)

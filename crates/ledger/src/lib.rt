@@ -1,6 +1,7 @@
-// The subaccount ledger: transfer, grant and sign. Each call is its table of refusals (`.._reply`), which tests the
-// whole frame, and then what is done where nothing refuses it (`.._done`; a sign does nothing more). Each says in
-// one equation, of all three tables that it is lent, what it answers and what it leaves of the desk and every row.
+// The subaccount ledger: transfer, grant and sign. Each call is the frame test, its table of refusals (`.._reply`), which
+// is handed what it reads, and then what is done where nothing refuses it (`.._done`; a sign does nothing more). Each
+// says in one equation, of all three tables that it is lent, what it answers and what it leaves of the desk and every
+// row.
 use desk::answers::is_done;
 use desk::answers::refuse;
 use desk::fields::balance_of;
@@ -11,9 +12,7 @@ use desk::fields::is_member;
 use desk::fields::of_eight;
 use desk::keep::set_balance;
 use desk::keep::set_of_eight;
-use frames::Counts;
-use frames::counts_of;
-use frames::in_frame;
+use frames::framed;
 use rules::answers::Answer;
 use rules::answers::Answered;
 use rules::answers::Refusal;
@@ -24,11 +23,13 @@ use rules::desk::Desk;
 use tables::put_row;
 ghost use mathlib.Core.Path.{_≡_};
 ghost use Rattle.rules.specs.declared.calls.Call.{Call};
-ghost use Rattle.frames.specs.Parts.{deskWith};
 ghost use Rattle.ledger.specs.After.{CanTransfer, CanGrant, transferredDesk, grantedDesk};
 ghost use Rattle.rules.specs.Facts.{Accepted};
-ghost use Rattle.rules.specs.Replies.{told, plain};
-ghost use Rattle.rules.specs.Answer.{answer, replyNumber, bookOf, outcomeOf};
+ghost use lib.ListN.{length};
+ghost use Rattle.rules.specs.State.{State};
+ghost use Rattle.rules.specs.Replies.{told, plain, smallest};
+ghost use Rattle.rules.specs.Refusals.{table};
+ghost use Rattle.rules.specs.Answer.{answer, bookOf, outcomeOf};
 
 // Transfer (from, to, asset, amount).
 pub fn transfer(
@@ -40,18 +41,9 @@ pub fn transfer(
 ) -> Answered
     ensures { λ r. ⌜ outcomeOf r (now (inbox .entry)) (now (outbox .entry)) (now (history .exit)) ≡ answer (bookOf d (now (inbox .entry)) (now (outbox .entry)) (now (history .entry))) (Call.Transfer t) ⌝ }
 {
-    let counts = counts_of(d);
-    let reply = transfer_reply(
-        &d.balances,
-        &d.holders,
-        &d.lifetime,
-        &d.settled,
-        counts,
-        inbox,
-        outbox,
-        history,
-        t,
-    );
+    let is_framed = framed(d, inbox, outbox, history);
+    let found = transfer_reply(&d.balances, d.records, t);
+    let reply = refuse(!is_framed, Refusal::BadBook, found);
     if !is_done(reply) {
         return Answered {
             answer: reply,
@@ -82,21 +74,12 @@ pub fn transfer_done(
     }
 }
 
-// The transfer's table of refusals, the largest number first.
-pub fn transfer_reply<'a>(
-    balances: &'a [u64; 128],
-    holders: &'a [u64; 8],
-    lifetime: &'a [u64; 8],
-    settled: &'a [u64; 8],
-    counts: Counts,
-    inbox: &[u64],
-    outbox: &[u64],
-    history: &[u64],
-    t: TransferFields,
-) -> Answer
-    ensures { λ r. ⌜ told r ≡ plain (replyNumber (bookOf (deskWith (now (balances .entry)) (now (holders .entry)) (now (lifetime .entry)) (now (settled .entry)) counts) (now (inbox .entry)) (now (outbox .entry)) (now (history .entry))) (Call.Transfer t)) ⌝ }
+// The transfer's table of refusals, the largest number first, for a book in frame. It reads the balances and how many
+// records there are.
+pub fn transfer_reply(balances: &[u64; 128], records: usize, t: TransferFields) -> Answer
+    ensures { λ r. ⌜ ((s : State) → s .balances ≡ now (balances .entry) → length (s .history) ≡ records → told r ≡ plain (smallest (table s (Call.Transfer t)))) ⌝ }
 {
-    let r = refuse(1024 <= counts.records, Refusal::HistoryFull, Answer::Done);
+    let r = refuse(1024 <= records, Refusal::HistoryFull, Answer::Done);
     let r = refuse(
         balance_of(balances, t.from, t.asset) < t.amount,
         Refusal::Short,
@@ -105,18 +88,7 @@ pub fn transfer_reply<'a>(
     let r = refuse(t.from == t.to, Refusal::SameMember, r);
     let r = refuse(!is_amount(t.amount), Refusal::BadAmount, r);
     let r = refuse(!is_asset(t.asset), Refusal::BadAsset, r);
-    let r = refuse(!is_member(t.from) | !is_member(t.to), Refusal::BadMember, r);
-    let framed = in_frame(
-        balances,
-        holders,
-        lifetime,
-        settled,
-        counts,
-        inbox,
-        outbox,
-        history,
-    );
-    refuse(!framed, Refusal::BadBook, r)
+    refuse(!is_member(t.from) | !is_member(t.to), Refusal::BadMember, r)
 }
 
 // The sender's balance falls, the receiver's grows, and there is one record more.
@@ -143,18 +115,9 @@ pub fn grant(
 ) -> Answered
     ensures { λ r. ⌜ outcomeOf r (now (inbox .entry)) (now (outbox .entry)) (now (history .exit)) ≡ answer (bookOf d (now (inbox .entry)) (now (outbox .entry)) (now (history .entry))) (Call.Grant g) ⌝ }
 {
-    let counts = counts_of(d);
-    let answer = grant_reply(
-        &d.balances,
-        &d.holders,
-        &d.lifetime,
-        &d.settled,
-        counts,
-        inbox,
-        outbox,
-        history,
-        g,
-    );
+    let is_framed = framed(d, inbox, outbox, history);
+    let found = grant_reply(&d.holders, d.records, g);
+    let answer = refuse(!is_framed, Refusal::BadBook, found);
     if !is_done(answer) {
         return Answered { answer, desk: d };
     }
@@ -182,36 +145,16 @@ pub fn grant_done(
     }
 }
 
-// The grant's table of refusals, the largest number first.
-pub fn grant_reply<'a>(
-    balances: &'a [u64; 128],
-    holders: &'a [u64; 8],
-    lifetime: &'a [u64; 8],
-    settled: &'a [u64; 8],
-    counts: Counts,
-    inbox: &[u64],
-    outbox: &[u64],
-    history: &[u64],
-    g: GrantFields,
-) -> Answer
-    ensures { λ r. ⌜ told r ≡ plain (replyNumber (bookOf (deskWith (now (balances .entry)) (now (holders .entry)) (now (lifetime .entry)) (now (settled .entry)) counts) (now (inbox .entry)) (now (outbox .entry)) (now (history .entry))) (Call.Grant g)) ⌝ }
+// The grant's table of refusals, the largest number first, for a book in frame. It reads the holders and how many
+// records there are.
+pub fn grant_reply(holders: &[u64; 8], records: usize, g: GrantFields) -> Answer
+    ensures { λ r. ⌜ ((s : State) → s .holders ≡ now (holders .entry) → length (s .history) ≡ records → told r ≡ plain (smallest (table s (Call.Grant g)))) ⌝ }
 {
-    let r = refuse(1024 <= counts.records, Refusal::HistoryFull, Answer::Done);
+    let r = refuse(1024 <= records, Refusal::HistoryFull, Answer::Done);
     let r = refuse(of_eight(holders, g.domain) != g.from, Refusal::NotHolder, r);
     let r = refuse(g.from == g.to, Refusal::SameMember, r);
     let r = refuse(!is_domain(g.domain), Refusal::BadDomain, r);
-    let r = refuse(!is_member(g.from) | !is_member(g.to), Refusal::BadMember, r);
-    let framed = in_frame(
-        balances,
-        holders,
-        lifetime,
-        settled,
-        counts,
-        inbox,
-        outbox,
-        history,
-    );
-    refuse(!framed, Refusal::BadBook, r)
+    refuse(!is_member(g.from) | !is_member(g.to), Refusal::BadMember, r)
 }
 
 // The domain has another holder, and there is one record more.
@@ -229,51 +172,21 @@ fn granted(d: Desk, g: GrantFields) -> Desk
 pub fn sign(d: Desk, inbox: &[u64], outbox: &[u64], history: &[u64], s: SignFields) -> Answered
     ensures { λ r. ⌜ outcomeOf r (now (inbox .entry)) (now (outbox .entry)) (now (history .entry)) ≡ answer (bookOf d (now (inbox .entry)) (now (outbox .entry)) (now (history .entry))) (Call.Sign s) ⌝ }
 {
-    let counts = counts_of(d);
-    let answer = sign_reply(
-        &d.balances,
-        &d.holders,
-        &d.lifetime,
-        &d.settled,
-        counts,
-        inbox,
-        outbox,
-        history,
-        s,
-    );
+    let is_framed = framed(d, inbox, outbox, history);
+    let found = sign_reply(&d.holders, s);
+    let answer = refuse(!is_framed, Refusal::BadBook, found);
     Answered { answer, desk: d }
 }
 
-// The table of refusals of sign, the largest number first.
-pub fn sign_reply<'a>(
-    balances: &'a [u64; 128],
-    holders: &'a [u64; 8],
-    lifetime: &'a [u64; 8],
-    settled: &'a [u64; 8],
-    counts: Counts,
-    inbox: &[u64],
-    outbox: &[u64],
-    history: &[u64],
-    s: SignFields,
-) -> Answer
-    ensures { λ r. ⌜ told r ≡ plain (replyNumber (bookOf (deskWith (now (balances .entry)) (now (holders .entry)) (now (lifetime .entry)) (now (settled .entry)) counts) (now (inbox .entry)) (now (outbox .entry)) (now (history .entry))) (Call.Sign s)) ⌝ }
+// The table of refusals of sign, the largest number first, for a book in frame. It reads the holders.
+pub fn sign_reply(holders: &[u64; 8], g: SignFields) -> Answer
+    ensures { λ r. ⌜ ((s : State) → s .holders ≡ now (holders .entry) → told r ≡ plain (smallest (table s (Call.Sign g)))) ⌝ }
 {
     let r = refuse(
-        of_eight(holders, s.domain) != s.member,
+        of_eight(holders, g.domain) != g.member,
         Refusal::NotHolder,
         Answer::Done,
     );
-    let r = refuse(!is_domain(s.domain), Refusal::BadDomain, r);
-    let r = refuse(!is_member(s.member), Refusal::BadMember, r);
-    let framed = in_frame(
-        balances,
-        holders,
-        lifetime,
-        settled,
-        counts,
-        inbox,
-        outbox,
-        history,
-    );
-    refuse(!framed, Refusal::BadBook, r)
+    let r = refuse(!is_domain(g.domain), Refusal::BadDomain, r);
+    refuse(!is_member(g.member), Refusal::BadMember, r)
 }

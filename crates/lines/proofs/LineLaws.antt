@@ -1,19 +1,20 @@
 -- A line's word and its numbers: the word is compared byte by byte, and the form that has it reads the rest.
 use Prim.Native.Nat.{ℕ, zero, suc, _+_, _≤_, _<_}
 use mathlib.Core.Path.{_≡_, refl, sym, ap, _∙_}
-use mathlib.Core.Bool.{Bool, true, false, _&&_, cond, and-eq-true-iff, false≢true}
+use mathlib.Core.Bool.{Bool, true, false, _&&_, cond, false≢true}
 use mathlib.Core.List.{List, [], _∷_}
 use native.Mathlib.Numerals.{add-one}
 use native.Mathlib.Omega.{arith}
 use lib.Dec.{eqb, eqb·zero-suc, eqb·suc-zero, eqb·suc-suc}
 use lib.ListN.{length, getD, take, drop, drop-of-length-le}
 use lib.Seq.{drop-cons}
-use borrow.Author.Tests.{le-leb, lt-leb, eqb-true}
+use borrow.Author.Tests.{le-leb, lt-leb}
 use Rattle.rules.specs.declared.calls.Field.{Field}
 use Rattle.rules.specs.declared.calls.Line.{Line}
 use Rattle.rules.specs.Lists.{same, any, bytes}
 use Rattle.rules.specs.Lines.{fieldEnd, firstField, afterField, number, Numbers, andRead, numbers, Form, depositForm, claimForm, transferForm, withdrawForm, sendForm, settleForm, grantForm, signForm, traceForm, forms, formed, formedOf, readFields, readLine}
 use Rattle.rules.proofs.ReadBack.{fieldsAfter, fields-first}
+use Rattle.rules.proofs.Tests.{same-eq}
 use Rattle.fields.proofs.FieldLaws.{same-part}
 use Rattle.lines.proofs.TakingLaws.{taken-ap}
 use Rattle.fields.specs.Reading.{nextField, taken}
@@ -35,15 +36,6 @@ same-not [] [] h = absurd (h refl)
 same-not [] (y ∷ f) h = refl
 same-not (x ∷ w) [] h = refl
 same-not (x ∷ w) (y ∷ f) h = rw (same-not w f (λ e. h (ap suc e)), mathlib.Core.Bool.and-false)
-
-pub same-eq : (w f : List ℕ) → same w f ≡ true → w ≡ f
-unfolding same
-same-eq [] [] h = refl
-same-eq [] (y ∷ f) h = absurd (false≢true h)
-same-eq (x ∷ w) [] h = absurd (false≢true h)
-same-eq (x ∷ w) (y ∷ f) h =
-    let (a, b) = and-eq-true-iff (eqb x y) (same w f) .0 h in
-    rw (eqb-true x y a, same-eq w f b)
 
 -- ---- the numbers of a line
 -- what so many numbers make

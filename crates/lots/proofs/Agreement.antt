@@ -12,7 +12,7 @@ use Rattle.rules.specs.Limits.{memberCount, assetCount, isMember, isAsset}
 use Rattle.rules.specs.Lists.{all, any, those, sumOf}
 use Rattle.rules.specs.State.{emptyState}
 use Rattle.rules.specs.Effects.{balance, cell}
-use Rattle.rules.specs.History.{Kind, kindOf, countedAs, provenance, provenanceOf, Standing, emptyStanding, standingAs, standingAfter, fitsAs, replays, historyInFrame}
+use Rattle.rules.specs.History.{Kind, kindOf, countedAs, provenance, provenanceOf, Standing, standingFrom, standingAs, standingAfter, fitsAs, replays, passesFrom}
 use Rattle.rules.specs.Lots.{line, lotOf, lotsAs, lotsAfter, replay}
 use Rattle.rules.proofs.Digits.{all-imply}
 use Rattle.lots.specs.Traces.{lineWorth, isPositive, isNamed, claimsDeposit, standingThrough}
@@ -99,9 +99,9 @@ zero-balance k n b = go (isMember n && isAsset b)
     go false = refl
 
 -- before any record there is nothing, everywhere
-agrees-empty : Agrees [] emptyStanding []
-unfolding emptyStanding emptyState all those sumOf line provenance
-agrees-empty =
+agrees-empty : (holders : List ℕ) → Agrees [] (standingFrom holders) []
+unfolding standingFrom emptyState all those sumOf line provenance
+agrees-empty holders =
     record {
       sized = refl;
       balances = λ n b. sym (zero-balance 128 n b);
@@ -110,18 +110,12 @@ agrees-empty =
       named = refl;
     }
 
--- so the lots agree with the balances after every history in frame
-pub in-frame-agrees : (h : List Record) → historyInFrame h ≡ true → Agrees h (standingThrough emptyStanding h) (replay [] h)
-in-frame-agrees h f = agrees-through h [] emptyStanding [] agrees-empty f
+-- so the lots agree with the balances after every history that passes its test, whoever held the domains at first
+module _ (holders : List ℕ) (h : List Record) (f : passesFrom holders h ≡ true) where
+  pub in-frame-agrees : Agrees h (standingThrough (standingFrom holders) h) (replay [] h)
+  in-frame-agrees = agrees-through h [] (standingFrom holders) [] (agrees-empty holders) f
 
--- ---- what is asked of it
--- a line is worth the balance that the replay has
-pub line-balance : (h : List Record) → historyInFrame h ≡ true → (m a : ℕ) → lineWorth m a (replay [] h) ≡ balance (standingThrough emptyStanding h .balances) m a
-line-balance h f m a = in-frame-agrees h f .balances m a
-
--- and that is the provenance
-pub line-provenance : (h : List Record) → historyInFrame h ≡ true → (m a : ℕ) → lineWorth m a (replay [] h) ≡ provenanceOf m a h
-line-provenance h f m a = in-frame-agrees h f .provenances m a
-
-pub balance-provenance : (h : List Record) → historyInFrame h ≡ true → (m a : ℕ) → balance (standingThrough emptyStanding h .balances) m a ≡ provenanceOf m a h
-balance-provenance h f m a = sym (line-balance h f m a) ∙ line-provenance h f m a
+  -- ---- what is asked of it
+  -- a line is worth the balance that the replay has, and that is the provenance
+  pub balance-provenance : (m a : ℕ) → balance (standingThrough (standingFrom holders) h .balances) m a ≡ provenanceOf m a h
+  balance-provenance m a = sym (in-frame-agrees .balances m a) ∙ in-frame-agrees .provenances m a

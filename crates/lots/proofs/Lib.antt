@@ -12,4 +12,3 @@ pub mod Agreement
 pub mod TraceLaws
 pub mod Coins
 pub mod TraceJoin
-pub mod DepositLaws

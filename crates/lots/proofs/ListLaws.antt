@@ -82,12 +82,3 @@ module _ {A : Type 0} where
           → sumOf f (cond t (x ∷ those p xs) (those p xs)) ≡ cond t (f x) 0 + sumOf (λ y. cond (p y) (f y) 0) xs
       go true ih = rw ih
       go false ih = omega arith
-
-  -- what passes two tests passes a third that follows from them
-  pub all-both : (p q s : A → Bool) → ((x : A) → p x ≡ true → q x ≡ true → s x ≡ true) → (xs : List A) → all p xs ≡ true → all q xs ≡ true → all s xs ≡ true
-  unfolding all
-  all-both p q s f [] h k = refl
-  all-both p q s f (x ∷ xs) h k =
-      let (a, b) = and-eq-true-iff (p x) (all p xs) .0 h in
-      let (c, d) = and-eq-true-iff (q x) (all q xs) .0 k in
-      rw (f x a c) (all-both p q s f xs b d)

@@ -4,21 +4,19 @@ use mathlib.Core.Path.{_≡_, refl, sym, ap, _∙_}
 use mathlib.Core.Bool.{Bool, true, false, cond, and-eq-true-iff}
 use mathlib.Core.List.{List, [], _∷_, _++_}
 use native.Mathlib.Omega.{arith}
-use lib.Dec.{eqb, eqb·suc-zero}
+use lib.Dec.{eqb·suc-zero}
 use lib.ListN.{length}
-use borrow.Author.Tests.{lt-ltb, eqb-true, ne-eqb}
+use borrow.Author.Tests.{lt-ltb, ne-eqb}
 use Rattle.rules.specs.declared.rows.Record.{Record}
 use Rattle.rules.specs.declared.rows.Nonce.{Nonce}
 use Rattle.rules.specs.declared.rows.Lot.{Lot}
-use Rattle.rules.specs.Lists.{all, any, those}
-use Rattle.rules.specs.History.{isWithdrawal, withdrawals, Standing, emptyStanding, standingAfter, fits, replays, historyInFrame}
-use Rattle.rules.specs.Lots.{inLine, line, takenBy, lotsAfter, replay, traceFrom, pieces}
-use Rattle.lots.specs.Traces.{lineWorth, takenLine, isPositive, isNamed, claimsDeposit, standingThrough, nthWithdrawal, beforePayment, afterPayment, PaymentAt, Traced}
-use Rattle.lots.proofs.ListLaws.{any-append, all-both}
+use Rattle.rules.specs.Lists.{those}
+use Rattle.rules.specs.History.{isWithdrawal, withdrawals, Standing, standingFrom, standingAfter, fits, replays, passesFrom}
+use Rattle.rules.specs.Lots.{takenBy, lotsAfter, replay, traceFrom, pieces}
+use Rattle.lots.specs.Traces.{lineWorth, isPositive, isNamed, standingThrough, nthWithdrawal, beforePayment, afterPayment, PaymentAt, Traced}
 use Rattle.lots.proofs.Fits.{Pays, withdrawal-fits, withdrawal-kind}
 use Rattle.lots.proofs.Taking.{takes, takes-owned}
 use Rattle.lots.proofs.LotTests.{takes-all}
-use Rattle.lots.proofs.LotLaws.{taken-line}
 use Rattle.lots.proofs.LotWorth.{taken-worth}
 use Rattle.lots.proofs.Agreement.{in-frame-agrees}
 
@@ -62,19 +60,12 @@ trace-at (r ∷ before) after w ls n p e = go (isWithdrawal r) refl e (trace-at 
     go true q e here next = rw (q, ne-eqb n 0 (λ z. omega arith)) (next (omega arith))
     go false q e here next = rw q (here e)
 
--- so the pieces of payment n are what is taken from the front of the payer's line by itself, as the records before it left it
+-- so the pieces of payment n are what its withdrawal takes of the lots, as the records before it left them
 pub pieces-at : (h : List Record) (n : Nonce) → n .0 < withdrawals h → pieces h n ≡ takenBy (nthWithdrawal (n .0) h) (replay [] (beforePayment (n .0) h))
 pieces-at h n l =
     let p = payment-at (n .0) h l in
     ap (traceFrom [] (n .0)) (p .whole)
     ∙ trace-at (beforePayment (n .0) h) (afterPayment (n .0) h) (nthWithdrawal (n .0) h) [] (n .0) (p .paid) (p .earlier)
-
-pub pieces-line : (h : List Record) (n : Nonce) → n .0 < withdrawals h
-    → pieces h n
-    ≡ takenLine (nthWithdrawal (n .0) h .amount) (line (nthWithdrawal (n .0) h .first) (nthWithdrawal (n .0) h .asset) (replay [] (beforePayment (n .0) h)))
-pieces-line h n l =
-    let w = nthWithdrawal (n .0) h in
-    pieces-at h n l ∙ taken-line (w .first) (w .asset) (w .amount) (replay [] (beforePayment (n .0) h))
 
 -- ---- in a history in frame
 -- a history that the test passes, in two parts: it passes the first, and the second from there on
@@ -87,57 +78,39 @@ replays-parts (r ∷ before) after s f =
     (rw u p, q)
 
 -- payment n finds the records before it in frame, and the payer with the amount
-pub record Covered (n : ℕ) (h : List Record) : Type 0 where
-  pub framed : historyInFrame (beforePayment n h) ≡ true
-  pub pays : Pays (standingThrough emptyStanding (beforePayment n h)) (nthWithdrawal n h)
+pub record Covered (holders : List ℕ) (n : ℕ) (h : List Record) : Type 0 where
+  pub framed : passesFrom holders (beforePayment n h) ≡ true
+  pub pays : Pays (standingThrough (standingFrom holders) (beforePayment n h)) (nthWithdrawal n h)
 
-pub payment-covered : (n : ℕ) (h : List Record) → historyInFrame h ≡ true → n < withdrawals h → Covered n h
-unfolding replays
-payment-covered n h f l =
-    let p = payment-at n h l in
-    let w = nthWithdrawal n h in
-    let s = standingThrough emptyStanding (beforePayment n h) in
-    let (u, v) = replays-parts (beforePayment n h) (w ∷ afterPayment n h) emptyStanding (sym (ap (replays emptyStanding) (p .whole)) ∙ f) in
-    let k = and-eq-true-iff (fits s w) (replays (standingAfter s w) (afterPayment n h)) .0 v .0 in
-    record { framed = u; pays = withdrawal-fits s w (rw (withdrawal-kind w (p .paid)) at k) }
+module _ (holders : List ℕ) where
+  pub payment-covered : (n : ℕ) (h : List Record) → passesFrom holders h ≡ true → n < withdrawals h → Covered holders n h
+  unfolding replays
+  payment-covered n h f l =
+      let p = payment-at n h l in
+      let w = nthWithdrawal n h in
+      let s = standingThrough (standingFrom holders) (beforePayment n h) in
+      let (u, v) = replays-parts (beforePayment n h) (w ∷ afterPayment n h) (standingFrom holders) (sym (ap (replays (standingFrom holders)) (p .whole)) ∙ f) in
+      let k = and-eq-true-iff (fits s w) (replays (standingAfter s w) (afterPayment n h)) .0 v .0 in
+      record { framed = u; pays = withdrawal-fits s w (rw (withdrawal-kind w (p .paid)) at k) }
 
--- so every withdrawal finds enough in its line
-pub line-covers : (n : ℕ) (h : List Record) → historyInFrame h ≡ true → n < withdrawals h
-    → nthWithdrawal n h .amount ≤ lineWorth (nthWithdrawal n h .first) (nthWithdrawal n h .asset) (replay [] (beforePayment n h))
-line-covers n h f l =
-    let c = payment-covered n h f l in
-    rw (in-frame-agrees (beforePayment n h) (c .framed) .balances (nthWithdrawal n h .first) (nthWithdrawal n h .asset)) (c .pays .covered)
+  -- so every withdrawal finds enough in its line
+  pub line-covers : (n : ℕ) (h : List Record) → passesFrom holders h ≡ true → n < withdrawals h
+      → nthWithdrawal n h .amount ≤ lineWorth (nthWithdrawal n h .first) (nthWithdrawal n h .asset) (replay [] (beforePayment n h))
+  line-covers n h f l =
+      let c = payment-covered n h f l in
+      rw (in-frame-agrees holders (beforePayment n h) (c .framed) .balances (nthWithdrawal n h .first) (nthWithdrawal n h .asset)) (c .pays .covered)
 
--- and its pieces are together the amount, of the payer and the asset, none of them nothing, each named by a claim before
-pub trace-sound : (h : List Record) (n : Nonce) → historyInFrame h ≡ true → n .0 < withdrawals h → Traced (beforePayment (n .0) h) (nthWithdrawal (n .0) h) (pieces h n)
-trace-sound h n f l =
-    let w = nthWithdrawal (n .0) h in
-    let before = beforePayment (n .0) h in
-    let g = in-frame-agrees before (payment-covered (n .0) h f l .framed) in
-    let t = takes (w .first) (w .asset) (w .amount) (replay [] before) in
-    rw (pieces-at h n l)
-    (record {
-      amount = taken-worth (w .first) (w .asset) (w .amount) (replay [] before) (line-covers (n .0) h f l);
-      owned = takes-owned t;
-      positive = takes-all isPositive (λ k x p c. lt-ltb 0 x p) t (g .positive);
-      named = takes-all (isNamed before) (λ k x p c. c) t (g .named);
-    })
-
--- a claim before the payment is a claim of the history: each piece's deposit number is that of a claim of the payment's asset in the history
-pub trace-named : (h : List Record) (n : Nonce) → historyInFrame h ≡ true → n .0 < withdrawals h
-    → all (λ l. any (claimsDeposit (nthWithdrawal (n .0) h .asset) (l .number .0)) h) (pieces h n) ≡ true
-trace-named h n f l =
-    let t = trace-sound h n f l in
-    all-both (inLine (w .first) (w .asset)) (isNamed before) (λ k. any (claimsDeposit (w .asset) (k .number .0)) h) of-history (pieces h n) (t .owned) (t .named)
-  where
-    w : Record
-    w = nthWithdrawal (n .0) h
-
-    before : List Record
-    before = beforePayment (n .0) h
-
-    of-history : (k : Lot) → inLine (w .first) (w .asset) k ≡ true → isNamed before k ≡ true → any (claimsDeposit (w .asset) (k .number .0)) h ≡ true
-    of-history k o c =
-        let e : k .asset ≡ w .asset = eqb-true (k .asset) (w .asset) (and-eq-true-iff (eqb (k .member) (w .first)) (eqb (k .asset) (w .asset)) .0 o .1) in
-        ap (any (claimsDeposit (w .asset) (k .number .0))) (payment-at (n .0) h l .whole)
-        ∙ rw (any-append (claimsDeposit (w .asset) (k .number .0)) before (w ∷ afterPayment (n .0) h), ← e, c)
+  -- and its pieces are together the amount, of the payer and the asset, none of them nothing, each named by a claim before
+  pub trace-sound : (h : List Record) (n : Nonce) → passesFrom holders h ≡ true → n .0 < withdrawals h → Traced (beforePayment (n .0) h) (nthWithdrawal (n .0) h) (pieces h n)
+  trace-sound h n f l =
+      let w = nthWithdrawal (n .0) h in
+      let before = beforePayment (n .0) h in
+      let g = in-frame-agrees holders before (payment-covered (n .0) h f l .framed) in
+      let t = takes (w .first) (w .asset) (w .amount) (replay [] before) in
+      rw (pieces-at h n l)
+      (record {
+        amount = taken-worth (w .first) (w .asset) (w .amount) (replay [] before) (line-covers (n .0) h f l);
+        owned = takes-owned t;
+        positive = takes-all isPositive (λ k x p c. lt-ltb 0 x p) t (g .positive);
+        named = takes-all (isNamed before) (λ k x p c. c) t (g .named);
+      })

@@ -1,2 +1,1 @@
 pub mod Traces
-pub mod Deposits

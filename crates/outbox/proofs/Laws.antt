@@ -1,14 +1,14 @@
 -- What withdraw, send and settle refuse, as the code's chain; and what a done one lays back.
 use Prim.Native.Nat.{ℕ, zero, suc, _+_, _-_, _*_, _≤_, _<_}
 use mathlib.Core.Path.{_≡_, refl, sym, ap, _∙_}
-use mathlib.Core.Bool.{Bool, true, false, not, _&&_, _||_}
+use mathlib.Core.Bool.{Bool, true, not, _&&_, _||_}
 use mathlib.Core.List.{List, [], _∷_, _++_, append-assoc}
 use native.Mathlib.Nat.{add-zero}
 use native.Mathlib.Omega.{arith}
 use lib.Dec.{leb, ltb, eqb}
 use lib.ListN.{length, getD, take, drop, length-append, length-drop, take-append-drop}
 use lib.Seq.{getD-take, getD-drop, drop-append-le, length-take-le}
-use borrow.Author.Tests.{leb-true, leb-false, le-leb, eqb-false, eq-eqb, ne-eqb, lt-ltb}
+use borrow.Author.Tests.{leb-true, le-leb, lt-ltb}
 use Rattle.rules.specs.declared.desk.Desk.{Desk}
 use Rattle.rules.specs.declared.rows.Nonce.{Nonce}
 use Rattle.rules.specs.declared.rows.Payment.{Payment}
@@ -18,17 +18,17 @@ use Rattle.rules.specs.declared.answers.Refusal.{Refusal}
 use Rattle.rules.specs.Limits.{ceiling, outboxRows, isMember, isAsset, isAmount, isPayee}
 use Rattle.rules.specs.Lists.{all}
 use Rattle.rules.specs.Tables.{Edit, rowsOf, lay, edited, editedTable, paymentShape, recordShape}
-use Rattle.rules.specs.State.{Book, view, laid, deskOf, outboxOf, historyOf, payments}
-use Rattle.rules.specs.Replies.{numberOf, told, plain}
-use Rattle.rules.specs.Refusals.{refusals, full}
+use Rattle.rules.specs.State.{State, Book, view, laid, deskOf, outboxOf, historyOf, payments}
+use Rattle.rules.specs.Replies.{numberOf, told, plain, smallest}
+use Rattle.rules.specs.Refusals.{table, refusals, full, fulls}
 use Rattle.rules.specs.Effects.{balance, oldest, paymentOf, withdrawn, sent, settledOne, effect, balancesAfter, holdersAfter, inboxEdit, outsideAfter, recordsOf}
 use Rattle.rules.specs.Frame.{hasRows, upToCeiling, paymentInLimits, noncesRise, inFrame}
-use Rattle.rules.specs.Answer.{frameTest, replyNumber, bookOf}
+use Rattle.rules.specs.Answer.{done, bookOf}
 use Rattle.rules.proofs.Laying.{RoomFor, length-rows, take-rows, drop-rows, lay-edited}
 use Rattle.rules.proofs.Shapes.{paymentSound}
 use Rattle.rules.specs.Facts.{Accepted, WithdrawalFit, SendFit, SettleFit}
 use Rattle.rules.proofs.Tests.{both, within-true, true-within, all-at}
-use Rattle.rules.proofs.Accepts.{fit, accepted-frame}
+use Rattle.rules.proofs.Accepts.{fit, roomy, accepted-frame}
 use Rattle.tables.specs.Rows.{putAt, takenOut}
 use Rattle.desk.specs.Parts.{ofEight}
 use Rattle.frames.specs.Parts.{countsFrame, countsOf, listsFrame, inboxFrame, outboxFrame}
@@ -70,78 +70,45 @@ module _ (b : Book) (f : Framed b) where
       (oldest-row (b .desk .payments - b .desk .inflight) (b .desk .inflight * 4) (b .outbox) (omega arith))
 
 -- ---- the tables of refusals
-abbrev pub withdrawEntries : Book → WithdrawalFields → List Entry
-withdrawEntries b w =
-    (Refusal.BadBook, not (inFrame b))
-    ∷ (Refusal.BadMember, not (isMember (w .member)))
+abbrev pub withdrawEntries : List ℕ → ℕ → ℕ → WithdrawalFields → List Entry
+withdrawEntries balances used records w =
+    (Refusal.BadMember, not (isMember (w .member)))
     ∷ (Refusal.BadAsset, not (isAsset (w .asset)))
     ∷ (Refusal.BadAmount, not (isAmount (w .amount)))
     ∷ (Refusal.BadPayee, not (isPayee (w .payee)))
-    ∷ (Refusal.Short, ltb (balance (b .desk .balances) (w .member) (w .asset)) (w .amount))
-    ∷ (Refusal.OutboxFull, leb 32 (b .desk .payments))
-    ∷ (Refusal.HistoryFull, leb 1024 (b .desk .records))
+    ∷ (Refusal.Short, ltb (balance balances (w .member) (w .asset)) (w .amount))
+    ∷ (Refusal.OutboxFull, leb 32 used)
+    ∷ (Refusal.HistoryFull, leb 1024 records)
     ∷ []
 
--- how many payments there are, on any book
-payments-count : (b : Book) → length (payments (view b .outside)) ≡ b .desk .payments
+pub withdraw-told : (balances : List ℕ) (used records : ℕ) (w : WithdrawalFields) (s : State)
+    → s .balances ≡ balances → length (payments (s .outside)) ≡ used → length (s .history) ≡ records
+    → told (chain (withdrawEntries balances used records w)) ≡ plain (smallest (table s (Call.Withdraw w)))
+unfolding refusals fulls full numberOf notBelow all
+withdraw-told balances used records w s p q r = rw (p, q, r) (chain-told (withdrawEntries balances used records w) refl)
+
+pub send-told : (waiting : ℕ) (s : State) → length (s .outside .waiting) ≡ waiting
+    → told (chain ((Refusal.NothingWaiting, eqb waiting 0) ∷ [])) ≡ plain (smallest (table s Call.Send))
+unfolding refusals fulls numberOf notBelow all
+send-told waiting s p = rw p (chain-told ((Refusal.NothingWaiting, eqb waiting 0) ∷ []) refl)
+
+pub settle-told : (inflight : ℕ) (due n : Nonce) (s : State)
+    → length (s .outside .inflight) ≡ inflight → (1 ≤ inflight → oldest (s .outside .inflight) .nonce ≡ due)
+    → told (chain ((Refusal.NotNext, eqb inflight 0 || not (eqb (due .0) (n .0))) ∷ [])) ≡ plain (smallest (table s (Call.Settle n)))
+unfolding refusals fulls numberOf notBelow all
+settle-told zero due n s p q = rw p (chain-told ((Refusal.NotNext, true) ∷ []) refl)
+settle-told (suc k) due n s p q = rw (p, q (omega arith)) (chain-told ((Refusal.NotNext, eqb (suc k) 0 || not (eqb (due .0) (n .0))) ∷ []) refl)
+
+-- ---- what they read, of any book
+-- how many payments there are
+pub payments-count : (b : Book) → length (payments (view b .outside)) ≡ b .desk .payments
 unfolding view
 payments-count b = rw (take-append-drop (b .desk .inflight) (outboxOf b)) (length-rows paymentShape (b .desk .payments) (b .outbox))
 
-pub withdraw-told : (b : Book) (w : WithdrawalFields) → told (chain (withdrawEntries b w)) ≡ plain (replyNumber b (Call.Withdraw w))
-unfolding replyNumber frameTest refusals full numberOf notBelow all view
-withdraw-told b w =
-    rw (payments-count b, length-rows recordShape (b .desk .records) (b .history)) (chain-told (withdrawEntries b w) refl)
-
--- how many wait, on any book
-waiting-count : (b : Book) → length (view b .outside .waiting) ≡ b .desk .payments - b .desk .inflight
+-- and how many wait
+pub waiting-count : (b : Book) → length (view b .outside .waiting) ≡ b .desk .payments - b .desk .inflight
 unfolding view
 waiting-count b = length-drop (b .desk .inflight) (outboxOf b) ∙ ap (λ (n : ℕ). n - b .desk .inflight) (length-rows paymentShape (b .desk .payments) (b .outbox))
-
--- nothing is left of n after k exactly if n is at most k
-none-left : (n k : ℕ) → eqb (n - k) 0 ≡ leb n k
-none-left n k = go (leb n k) refl
-  where
-    go : (p : Bool) → leb n k ≡ p → eqb (n - k) 0 ≡ p
-    go true e = let h : n ≤ k = leb-true n k e in eq-eqb (n - k) 0 (omega arith)
-    go false e = let h : k < n = leb-false n k e in ne-eqb (n - k) 0 (λ z. omega arith)
-
--- a call with one refusal of its own
-abbrev pub oneEntry : Book → Refusal → Bool → List Entry
-oneEntry b r applies = (Refusal.BadBook, not (inFrame b)) ∷ (r, applies) ∷ []
-
-pub send-told : (b : Book) → told (chain (oneEntry b Refusal.NothingWaiting (leb (b .desk .payments) (b .desk .inflight)))) ≡ plain (replyNumber b Call.Send)
-unfolding replyNumber frameTest refusals numberOf notBelow all
-send-told b =
-    rw (← none-left (b .desk .payments) (b .desk .inflight), ← waiting-count b)
-    (chain-told (oneEntry b Refusal.NothingWaiting (eqb (length (view b .outside .waiting)) 0)) refl)
-
--- BadBook stands first, so two tests behind it that agree in frame tell the same
-in-frame-alone : (b : Book) (r : Refusal) (p q : Bool) → (inFrame b ≡ true → p ≡ q) → chain (oneEntry b r p) ≡ chain (oneEntry b r q)
-in-frame-alone b r p q h = go (inFrame b) refl
-  where
-    go : (t : Bool) → inFrame b ≡ t → chain (oneEntry b r p) ≡ chain (oneEntry b r q)
-    go true e = rw (h e)
-    go false e = rw e
-
--- nothing is in flight, or the first row has another nonce
-abbrev pub notNext : Book → Nonce → Bool
-notNext b n = eqb (b .desk .inflight) 0 || not (eqb (getD (b .outbox) 3 0) (n .0))
-
--- in frame this is what the rules ask of the oldest in flight
-not-next : (b : Book) (n : Nonce) → Framed b
-    → notNext b n ≡ eqb (length (view b .outside .inflight)) 0 || not (eqb (oldest (view b .outside .inflight) .nonce .0) (n .0))
-not-next b n f = rw (flight-count b f) (go (eqb (b .desk .inflight) 0) refl)
-  where
-    go : (t : Bool) → eqb (b .desk .inflight) 0 ≡ t
-        → notNext b n ≡ eqb (b .desk .inflight) 0 || not (eqb (oldest (view b .outside .inflight) .nonce .0) (n .0))
-    go true e = rw e
-    go false e = rw (flight-row b f (omega (arith, eqb-false (b .desk .inflight) 0 e)))
-
-pub settle-told : (b : Book) (n : Nonce) → told (chain (oneEntry b Refusal.NotNext (notNext b n))) ≡ plain (replyNumber b (Call.Settle n))
-unfolding replyNumber frameTest refusals numberOf notBelow all
-settle-told b n =
-    let other : Bool = eqb (length (view b .outside .inflight)) 0 || not (eqb (oldest (view b .outside .inflight) .nonce .0) (n .0)) in
-    ap told (in-frame-alone b Refusal.NotNext (notNext b n) other (λ e. not-next b n (framed b e))) ∙ chain-told (oneEntry b Refusal.NotNext other) refl
 
 -- ---- what makes it safe
 pub can-withdraw : (b : Book) (w : WithdrawalFields) → Accepted b (Call.Withdraw w) → CanWithdraw (b .desk) w
@@ -155,8 +122,8 @@ can-withdraw b w a =
       asset = q .asset;
       enough = q .enough;
       next = f .next;
-      payments = omega (arith, q .queue, payments-count b);
-      records = omega (arith, q .room);
+      payments = omega (arith, roomy b (Call.Withdraw w) a .0 .room, payments-count b);
+      records = omega (arith, roomy b (Call.Withdraw w) a .1 .room);
     }
 
 -- some payment waits
@@ -277,7 +244,7 @@ pub withdraw-laid : (b : Book) (w : WithdrawalFields) → Framed b → CanWithdr
     → bookOf (withdrawnDesk (b .desk) w) (b .inbox)
     (putAt (b .desk .payments * 4) (w .asset ∷ w .amount ∷ w .payee ∷ b .desk .next .0 ∷ []) (b .outbox))
     (putAt (b .desk .records * 5) (3 ∷ w .asset ∷ w .amount ∷ w .member ∷ w .payee ∷ []) (b .history))
-    ≡ laid (effect (Call.Withdraw w) (view b)) b
+    ≡ done (Call.Withdraw w) b
 unfolding laid deskOf effect balancesAfter holdersAfter inboxEdit edited outsideAfter withdrawn recordsOf withdrawnDesk view
 withdraw-laid b w f h =
     rw (
@@ -291,7 +258,7 @@ withdraw-laid b w f h =
     )
 
 pub send-laid : (b : Book) → Framed b → b .desk .inflight < b .desk .payments
-    → bookOf (sentDesk (b .desk)) (b .inbox) (b .outbox) (b .history) ≡ laid (effect Call.Send (view b)) b
+    → bookOf (sentDesk (b .desk)) (b .inbox) (b .outbox) (b .history) ≡ done Call.Send b
 unfolding laid deskOf effect balancesAfter holdersAfter inboxEdit edited outsideAfter sent recordsOf view
 send-laid b f h =
     rw (
@@ -307,7 +274,7 @@ send-laid b f h =
 
 pub settle-laid : (b : Book) (n : Nonce) → Framed b → 1 ≤ b .desk .inflight
     → bookOf (settledDesk (b .desk) (paymentAt (b .outbox) 0)) (b .inbox) (takenOut 4 0 (b .desk .payments) (b .outbox)) (b .history)
-    ≡ laid (effect (Call.Settle n) (view b)) b
+    ≡ done (Call.Settle n) b
 unfolding laid deskOf effect balancesAfter holdersAfter inboxEdit edited outsideAfter settledOne recordsOf settledDesk view
 settle-laid b n f h =
     rw (

@@ -1,6 +1,6 @@
-// The outbox: withdraw, send and settle. Each call is its table of refusals (`.._reply`), which tests the whole
-// frame, and then what is done where nothing refuses it (`.._done`). Each says in one equation, of all three tables
-// that it is lent, what it answers and what it leaves of the desk and every row.
+// The outbox: withdraw, send and settle. Each call is the test of the whole frame, its table of refusals (`.._reply`),
+// which is handed what it reads, and then what is done where nothing refuses it (`.._done`). Each says in one equation,
+// of all three tables that it is lent, what it answers and what it leaves of the desk and every row.
 use desk::answers::is_done;
 use desk::answers::refuse;
 use desk::fields::balance_of;
@@ -11,9 +11,7 @@ use desk::fields::is_payee;
 use desk::fields::of_eight;
 use desk::keep::set_balance;
 use desk::keep::set_of_eight;
-use frames::Counts;
-use frames::counts_of;
-use frames::in_frame;
+use frames::framed;
 use rules::answers::Answer;
 use rules::answers::Answered;
 use rules::answers::Refusal;
@@ -24,13 +22,15 @@ use rules::rows::Payment;
 use tables::put_row;
 use tables::take_out;
 ghost use mathlib.Core.Path.{_≡_};
-ghost use Prim.Native.Nat.{_≤_};
-ghost use lib.ListN.{getD};
+ghost use Prim.Native.Nat.{_-_, _≤_};
+ghost use lib.ListN.{length, getD};
 ghost use Rattle.rules.specs.declared.calls.Call.{Call};
 ghost use Rattle.rules.specs.Facts.{Accepted};
-ghost use Rattle.rules.specs.Replies.{told, plain};
-ghost use Rattle.rules.specs.Answer.{answer, replyNumber, bookOf, outcomeOf};
-ghost use Rattle.frames.specs.Parts.{deskWith};
+ghost use Rattle.rules.specs.State.{State, payments as paymentsOf};
+ghost use Rattle.rules.specs.Replies.{told, plain, smallest};
+ghost use Rattle.rules.specs.Refusals.{table};
+ghost use Rattle.rules.specs.Effects.{oldest};
+ghost use Rattle.rules.specs.Answer.{answer, bookOf, outcomeOf};
 ghost use Rattle.outbox.specs.After.{CanWithdraw, CanSettle, paymentAt, withdrawnDesk, settledDesk};
 
 // Withdraw (member, asset, amount, payee): "asset, amount, payee and the next nonce join the end of
@@ -44,18 +44,9 @@ pub fn withdraw(
 ) -> Answered
     ensures { λ r. ⌜ outcomeOf r (now (inbox .entry)) (now (outbox .exit)) (now (history .exit)) ≡ answer (bookOf d (now (inbox .entry)) (now (outbox .entry)) (now (history .entry))) (Call.Withdraw w) ⌝ }
 {
-    let counts = counts_of(d);
-    let reply = withdraw_reply(
-        &d.balances,
-        &d.holders,
-        &d.lifetime,
-        &d.settled,
-        counts,
-        inbox,
-        outbox,
-        history,
-        w,
-    );
+    let is_framed = framed(d, inbox, outbox, history);
+    let own = withdraw_reply(&d.balances, d.payments, d.records, w);
+    let reply = refuse(!is_framed, Refusal::BadBook, own);
     if !is_done(reply) {
         return Answered {
             answer: reply,
@@ -90,22 +81,18 @@ pub fn withdraw_done(
     }
 }
 
-// The withdrawal's table of refusals, the largest number first.
-pub fn withdraw_reply<'a>(
-    balances: &'a [u64; 128],
-    holders: &'a [u64; 8],
-    lifetime: &'a [u64; 8],
-    settled: &'a [u64; 8],
-    counts: Counts,
-    inbox: &[u64],
-    outbox: &[u64],
-    history: &[u64],
+// The withdrawal's table of refusals, the largest number first, for a book in frame. It reads the balances and how
+// many payments and records there are.
+pub fn withdraw_reply(
+    balances: &[u64; 128],
+    payments: usize,
+    records: usize,
     w: WithdrawalFields,
 ) -> Answer
-    ensures { λ r. ⌜ told r ≡ plain (replyNumber (bookOf (deskWith (now (balances .entry)) (now (holders .entry)) (now (lifetime .entry)) (now (settled .entry)) counts) (now (inbox .entry)) (now (outbox .entry)) (now (history .entry))) (Call.Withdraw w)) ⌝ }
+    ensures { λ r. ⌜ ((s : State) → s .balances ≡ now (balances .entry) → length (paymentsOf (s .outside)) ≡ payments → length (s .history) ≡ records → told r ≡ plain (smallest (table s (Call.Withdraw w)))) ⌝ }
 {
-    let r = refuse(1024 <= counts.records, Refusal::HistoryFull, Answer::Done);
-    let r = refuse(32 <= counts.payments, Refusal::OutboxFull, r);
+    let r = refuse(1024 <= records, Refusal::HistoryFull, Answer::Done);
+    let r = refuse(32 <= payments, Refusal::OutboxFull, r);
     let r = refuse(
         balance_of(balances, w.member, w.asset) < w.amount,
         Refusal::Short,
@@ -114,18 +101,7 @@ pub fn withdraw_reply<'a>(
     let r = refuse(!is_payee(w.payee), Refusal::BadPayee, r);
     let r = refuse(!is_amount(w.amount), Refusal::BadAmount, r);
     let r = refuse(!is_asset(w.asset), Refusal::BadAsset, r);
-    let r = refuse(!is_member(w.member), Refusal::BadMember, r);
-    let framed = in_frame(
-        balances,
-        holders,
-        lifetime,
-        settled,
-        counts,
-        inbox,
-        outbox,
-        history,
-    );
-    refuse(!framed, Refusal::BadBook, r)
+    refuse(!is_member(w.member), Refusal::BadMember, r)
 }
 
 // The balance falls, "the next nonce rises by 1", and there is one payment and one record more.
@@ -151,17 +127,10 @@ fn withdrawn(d: Desk, w: WithdrawalFields) -> Desk
 pub fn send(d: Desk, inbox: &[u64], outbox: &[u64], history: &[u64]) -> Answered
     ensures { λ r. ⌜ outcomeOf r (now (inbox .entry)) (now (outbox .entry)) (now (history .entry)) ≡ answer (bookOf d (now (inbox .entry)) (now (outbox .entry)) (now (history .entry))) Call.Send ⌝ }
 {
-    let counts = counts_of(d);
-    let found = send_reply(
-        &d.balances,
-        &d.holders,
-        &d.lifetime,
-        &d.settled,
-        counts,
-        inbox,
-        outbox,
-        history,
-    );
+    let is_framed = framed(d, inbox, outbox, history);
+    let waiting = count_waiting(d.payments, d.inflight);
+    let own = send_reply(waiting);
+    let found = refuse(!is_framed, Refusal::BadBook, own);
     if !is_done(found) {
         return Answered {
             answer: found,
@@ -187,35 +156,21 @@ pub fn send_done(d: Desk, inbox: &[u64], outbox: &[u64], history: &[u64]) -> Ans
     }
 }
 
-// The send's table of refusals. The rows past those in flight wait.
-pub fn send_reply<'a>(
-    balances: &'a [u64; 128],
-    holders: &'a [u64; 8],
-    lifetime: &'a [u64; 8],
-    settled: &'a [u64; 8],
-    counts: Counts,
-    inbox: &[u64],
-    outbox: &[u64],
-    history: &[u64],
-) -> Answer
-    ensures { λ r. ⌜ told r ≡ plain (replyNumber (bookOf (deskWith (now (balances .entry)) (now (holders .entry)) (now (lifetime .entry)) (now (settled .entry)) counts) (now (inbox .entry)) (now (outbox .entry)) (now (history .entry))) Call.Send) ⌝ }
+// How many payments wait: those of the outbox but the ones in flight, on any two numbers.
+pub fn count_waiting(payments: usize, inflight: usize) -> usize
+    ensures { λ r. ⌜ r ≡ payments - inflight ⌝ }
 {
-    let r = refuse(
-        counts.payments <= counts.inflight,
-        Refusal::NothingWaiting,
-        Answer::Done,
-    );
-    let framed = in_frame(
-        balances,
-        holders,
-        lifetime,
-        settled,
-        counts,
-        inbox,
-        outbox,
-        history,
-    );
-    refuse(!framed, Refusal::BadBook, r)
+    if payments <= inflight {
+        return 0;
+    }
+    payments - inflight
+}
+
+// The send's table of refusals, for a book in frame. It reads how many wait.
+pub fn send_reply(waiting: usize) -> Answer
+    ensures { λ r. ⌜ ((s : State) → length (s .outside .waiting) ≡ waiting → told r ≡ plain (smallest (table s Call.Send))) ⌝ }
+{
+    refuse(waiting == 0, Refusal::NothingWaiting, Answer::Done)
 }
 
 // Settle (nonce): the oldest payment in flight "leaves the outbox and the asset's settled total
@@ -223,18 +178,10 @@ pub fn send_reply<'a>(
 pub fn settle(d: Desk, inbox: &[u64], outbox: &mut [u64], history: &[u64], n: Nonce) -> Answered
     ensures { λ r. ⌜ outcomeOf r (now (inbox .entry)) (now (outbox .exit)) (now (history .entry)) ≡ answer (bookOf d (now (inbox .entry)) (now (outbox .entry)) (now (history .entry))) (Call.Settle n) ⌝ }
 {
-    let counts = counts_of(d);
-    let verdict = settle_reply(
-        &d.balances,
-        &d.holders,
-        &d.lifetime,
-        &d.settled,
-        counts,
-        inbox,
-        outbox,
-        history,
-        n,
-    );
+    let is_framed = framed(d, inbox, outbox, history);
+    let due = first_nonce(outbox);
+    let own = settle_reply(d.inflight, due, n);
+    let verdict = refuse(!is_framed, Refusal::BadBook, own);
     if !is_done(verdict) {
         return Answered {
             answer: verdict,
@@ -264,38 +211,23 @@ pub fn settle_done(
     }
 }
 
-// The settlement's table of refusals. The nonce is read on any book: out of frame it does not matter
-// what is read, since BadBook stands before NotNext.
-pub fn settle_reply<'a>(
-    balances: &'a [u64; 128],
-    holders: &'a [u64; 8],
-    lifetime: &'a [u64; 8],
-    settled: &'a [u64; 8],
-    counts: Counts,
-    inbox: &[u64],
-    outbox: &[u64],
-    history: &[u64],
-    n: Nonce,
-) -> Answer
-    ensures { λ r. ⌜ told r ≡ plain (replyNumber (bookOf (deskWith (now (balances .entry)) (now (holders .entry)) (now (lifetime .entry)) (now (settled .entry)) counts) (now (inbox .entry)) (now (outbox .entry)) (now (history .entry))) (Call.Settle n)) ⌝ }
+// The nonce of the outbox's first row, and 0 where there is none.
+pub fn first_nonce(outbox: &[u64]) -> Nonce
+    ensures { λ r. ⌜ r ≡ paymentAt (now (outbox .entry)) 0 .nonce ⌝ }
 {
-    let due = number_at(outbox, 3);
-    let r = refuse(
-        (counts.inflight == 0) | (due != n.0),
+    Nonce(number_at(outbox, 3))
+}
+
+// The settlement's table of refusals, for a book in frame. It reads how many are in flight and, where some are, the
+// nonce of the oldest.
+pub fn settle_reply(inflight: usize, due: Nonce, n: Nonce) -> Answer
+    ensures { λ r. ⌜ ((s : State) → length (s .outside .inflight) ≡ inflight → (1 ≤ inflight → oldest (s .outside .inflight) .nonce ≡ due) → told r ≡ plain (smallest (table s (Call.Settle n)))) ⌝ }
+{
+    refuse(
+        (inflight == 0) | (due.0 != n.0),
         Refusal::NotNext,
         Answer::Done,
-    );
-    let framed = in_frame(
-        balances,
-        holders,
-        lifetime,
-        settled,
-        counts,
-        inbox,
-        outbox,
-        history,
-    );
-    refuse(!framed, Refusal::BadBook, r)
+    )
 }
 
 // The settled total of the payment's asset grows by its amount, and there is one payment less, which

@@ -13,7 +13,7 @@ use Rattle.rules.specs.Replies.{Reply, numberOf, told, toldOrigin, smallest, if
 use Rattle.rules.specs.Limits.{historyRows}
 use Rattle.rules.specs.Frame.{inFrame}
 use Rattle.rules.specs.History.{historyInFrame}
-use Rattle.rules.specs.Refusals.{refusals, traceRefusals}
+use Rattle.rules.specs.Refusals.{refusals, fulls, traceRefusals}
 use Rattle.lots.proofs.TraceJoin.{records-fit}
 use Rattle.rules.specs.Answer.{answer, replyNumber, frameTest, doneAnswer, badHistory, replyWith, traceNumber, traceAnswer, provenanceNumber, provenanceAnswer}
 use Rattle.promises.specs.Demand1.{isOneOf}
@@ -74,7 +74,7 @@ framed-by true y e = refl
 framed-by false y e = absurd (false≢true (sym e))
 
 pub never-small : (b : Book) (n : Nonce) → answer b (Call.Trace n) .reply .number ≢ 20
-unfolding answer replyNumber frameTest refusals traceRefusals numberOf told doneAnswer view
+unfolding answer replyNumber frameTest refusals fulls traceRefusals numberOf told doneAnswer view
 never-small b n e =
     never-twenty (badHistory b .1) _ _ (λ f.
     let r = records-fit b (framed-by (inFrame b) (historyInFrame (historyOf b)) f) in

@@ -12,10 +12,9 @@ use Rattle.rules.specs.State.{State}
 use Rattle.rules.specs.Effects.{balance, total}
 use Rattle.rules.specs.Frame.{upToCeiling}
 use Rattle.rules.specs.Facts.{Within}
+use Rattle.promises.specs.Started.{Lengths, Balanced}
 use Rattle.rules.proofs.Tests.{true-within, all-at, all-of}
 use Rattle.promises.proofs.Sums.{in-sum}
-use Rattle.promises.proofs.Lengths.{Lengths}
-use Rattle.promises.proofs.Sheet.{Balanced}
 
 -- ---- balances and totals
 -- an entry of a list below the ceiling

@@ -10,11 +10,19 @@ use borrow.Author.Tests.{leb-true}
 use Rattle.promises.specs.Types.{Call, Line}
 use Rattle.rules.specs.Limits.{mostBytes, highestField}
 use Rattle.rules.specs.Lists.{all, any, bytes}
+use Rattle.rules.specs.State.{Book, Empty}
+use Rattle.rules.specs.Runs.{run}
 use Rattle.rules.specs.Lines.{tab, fieldsFrom, fields, Numbers, numbers, readLine, decimal, tabbed, formOf, numbersOf, writeLine, depositForm, claimForm, transferForm, withdrawForm, sendForm, settleForm, grantForm, signForm, traceForm}
 use Rattle.rules.proofs.ReadBack.{untabbed, fields-tabbed, numbers-decimal, length-tabbed}
 use Rattle.promises.specs.Demand1.{isEmpty}
+use Rattle.promises.specs.Started.{Since}
 use Rattle.promises.specs.Promises.{IsWritten}
 use Rattle.promises.proofs.Promises.{promises}
+
+-- ---- one list of calls after another
+-- calls can start from every book that calls led to from an empty one
+pub since-then : (b : Book) (cs more : List Call) → Empty b → Since (run b cs) more
+since-then b cs more e = promises .since (run b cs) more (promises .since b cs (promises .starts b e) .started)
 
 -- ---- empty fields
 -- what stands in front of a tab leaves the fields after it as they are, so an empty one among them stays

@@ -4,11 +4,10 @@ use mathlib.Core.Bool.{Bool, true, false, cond}
 use mathlib.Core.List.{List, [], _∷_, _++_, append-nil, append-assoc, foldl, foldl-append}
 use Rattle.promises.specs.Types.{Call}
 use Rattle.rules.specs.Lists.{those, joined}
-use Rattle.rules.specs.State.{State, Book, view, laid}
+use Rattle.rules.specs.State.{State, Book, view}
 use Rattle.rules.specs.Effects.{effect}
 use Rattle.rules.specs.Runs.{run, gather, itself, accepted}
 use Rattle.rules.proofs.Laying.{joined-append}
-use Rattle.rules.proofs.Shapes.{view-laid}
 use Rattle.rules.specs.Facts.{Accepted}
 use Rattle.promises.proofs.Base.{run-keeps}
 
@@ -40,24 +39,24 @@ module _ {S W A : Type 0} (moved : W → S → W) (shown : W → S → List A) w
 module _ {S W A : Type 0} (see : Call → List S) (look : State → W) (out : Book → Call → List A) (moved : W → S → W) (shown : W → S → List A)
     (moves : (b : Book) (c : Call) → Accepted b c → look (effect c (view b)) ≡ foldl moved (look (view b)) (see c))
     (shows : (b : Book) (c : Call) → Accepted b c → out b c ≡ shownBy moved shown (look (view b)) (see c)) where
-  -- after these accepted calls, which left this behind, the book stands where the machine does
-  record Follows (v : W) (xs : List Call) (ys : List A) (b : Book) : Type 0 where
-    stands : look (view b) ≡ foldl moved v (joined see xs)
+  -- after these accepted calls, which left this behind, the state stands where the machine does
+  record Follows (v : W) (xs : List Call) (ys : List A) (s : State) : Type 0 where
+    stands : look s ≡ foldl moved v (joined see xs)
     left : ys ≡ shownBy moved shown v (joined see xs)
 
   -- one accepted call more
-  follows-on : (v : W) (xs : List Call) (ys : List A) (b : Book) (c : Call) → Accepted b c → Follows v xs ys b
-      → Follows v (xs ++ (c ∷ [])) (ys ++ out b c) (laid (effect c (view b)) b)
+  follows-on : (v : W) (xs : List Call) (ys : List A) (b : Book) (c : Call) → Accepted b c → Follows v xs ys (view b)
+      → Follows v (xs ++ (c ∷ [])) (ys ++ out b c) (effect c (view b))
   unfolding joined
   follows-on v xs ys b c a f =
       let more : joined see (xs ++ (c ∷ [])) ≡ joined see xs ++ see c = joined-append see xs (c ∷ []) ∙ ap (λ (r : List S). joined see xs ++ r) (append-nil (see c)) in
       record {
-        stands = rw (view-laid (effect c (view b)) b, more, foldl-append moved v (joined see xs) (see c), moves b c a, f .stands);
+        stands = rw (more, foldl-append moved v (joined see xs) (see c), moves b c a, f .stands);
         left = rw (more, shown-append moved shown v (joined see xs) (see c), shows b c a, f .stands, f .left);
       }
 
   -- every run does
-  follows : (b : Book) (cs : List Call) → Follows (look (view b)) (accepted b cs) (gather out b cs) (run b cs)
+  follows : (b : Book) (cs : List Call) → Follows (look (view b)) (accepted b cs) (gather out b cs) (view (run b cs))
   unfolding joined shownBy
   follows b cs = run-keeps itself out (Follows (look (view b))) (follows-on (look (view b))) b cs (record { stands = refl; left = refl })
 

@@ -5,7 +5,7 @@ use mathlib.Core.List.{[], _∷_, _++_, map}
 use lib.ListN.{getD, take, drop, replicate}
 use Rattle.promises.specs.Types.{Line}
 use Rattle.rules.specs.Lists.{any, those, bytes}
-use Rattle.rules.specs.State.{emptyBook, inboxOf, historyOf}
+use Rattle.rules.specs.State.{firstHolders, emptyBook, inboxOf, historyOf}
 use Rattle.rules.specs.Replies.{plain}
 use Rattle.rules.specs.Effects.{balance, holder, total}
 use Rattle.rules.specs.Frame.{inFrame}
@@ -132,7 +132,7 @@ unfolding compute worked threePayments
 asked-here = refl
 
 -- a holder after two grants, and one after none
-pub holders-here : (map (holder (run emptyBook worked .desk .holders)) (5 ∷ 6 ∷ []) ≡ 4 ∷ 1 ∷ []) × (map (λ d. holderBy d workedRecords) (5 ∷ 6 ∷ []) ≡ 4 ∷ 1 ∷ [])
+pub holders-here : (map (holder (run emptyBook worked .desk .holders)) (5 ∷ 6 ∷ []) ≡ 4 ∷ 1 ∷ []) × (map (λ d. holderBy firstHolders d workedRecords) (5 ∷ 6 ∷ []) ≡ 4 ∷ 1 ∷ [])
 unfolding compute worked threePayments workedRecords heldAs heldAfter
 holders-here = (refl, refl)
 

@@ -13,32 +13,17 @@ use Rattle.rules.specs.State.{Outside, State, payments}
 use Rattle.rules.specs.Effects.{effect, holdersAfter, total, raised, deposited, withdrawn, sent, settledOne, outsideAfter, recordsOf}
 use Rattle.rules.specs.Frame.{upToCeiling}
 use Rattle.rules.specs.History.{isWithdrawal, withdrawals}
-use Rattle.rules.specs.Facts.{Fit}
+use Rattle.rules.specs.Facts.{Fit, Room}
 use Rattle.rules.proofs.Tests.{true-within, all-set}
 use Rattle.promises.proofs.Framed.{Framed}
-use Rattle.promises.proofs.Lengths.{Lengths}
-use Rattle.promises.proofs.Sheet.{Balanced}
+use Rattle.promises.specs.Started.{Lengths, Balanced, Counts}
 use Rattle.lots.proofs.ListLaws.{those-append, length-those}
+use Rattle.promises.proofs.RowCounts.{inbox-few, outbox-few, history-few}
 use Rattle.promises.proofs.InboxFrame.{InboxFramed, inbox-kept}
 use Rattle.promises.proofs.OutboxFrame.{OutboxFramed, outbox-kept}
 use Rattle.promises.proofs.Ceilings.{balances-below, settled-below}
 
--- ---- the history, the holders, the last number, the lifetime totals
-records-kept : (s : State) (c : Call) → Fit s c → Framed s → length (effect c s .history) ≤ historyRows
-unfolding effect recordsOf
-records-kept s c k f = rw (length-append (s .history) (recordsOf c)) (go c k)
-  where
-    go : (c : Call) → Fit s c → length (s .history) + length (recordsOf c) ≤ historyRows
-    go (Call.Deposit d) k = omega arith
-    go (Call.Claim c) k = omega arith
-    go (Call.Transfer t) k = omega arith
-    go (Call.Withdraw w) k = omega arith
-    go Call.Send k = omega arith
-    go (Call.Settle n) k = omega arith
-    go (Call.Grant g) k = omega arith
-    go (Call.Sign g) k = omega arith
-    go (Call.Trace n) k = omega arith
-
+-- ---- the holders, the last number, the lifetime totals
 -- a grant makes a member the holder
 holders-kept : (s : State) (c : Call) → Fit s c → Framed s → all isMember (effect c s .holders) ≡ true
 unfolding effect holdersAfter
@@ -76,11 +61,7 @@ deposits-kept s (Call.Grant g) k f = record { last = f .last; lifetime = f .life
 deposits-kept s (Call.Sign g) k f = record { last = f .last; lifetime = f .lifetime }
 deposits-kept s (Call.Trace n) k f = record { last = f .last; lifetime = f .lifetime }
 
--- ---- the next nonce
--- it is the number of withdrawals in the history
-abbrev pub Counts : State → Type 0
-Counts s = s .outside .next .0 ≡ withdrawals (s .history)
-
+-- ---- the next nonce is the number of withdrawals in the history
 -- so it is at most the number of records
 withdrawals-most : (h : List Record) → withdrawals h ≤ length h
 unfolding withdrawals
@@ -103,15 +84,15 @@ counts-kept s c h = rw (those-append isWithdrawal (s .history) (recordsOf c), le
     go (Call.Trace n) = omega arith
 
 -- ---- the whole
-pub framed-kept : (s : State) (c : Call) → Fit s c → Framed s → Lengths (effect c s) → ((a : ℕ) → Balanced (effect c s) a) → Counts (effect c s) → Framed (effect c s)
-framed-kept s c k f l sheet n =
+pub framed-kept : (s : State) (c : Call) → Fit s c → Room s c → Framed s → Lengths (effect c s) → ((a : ℕ) → Balanced (effect c s) a) → Counts (effect c s) → Framed (effect c s)
+framed-kept s c k o f l sheet n =
     let inbox : InboxFramed (effect c s .outside .last .0) (effect c s .inbox) = inbox-kept s c k f in
     let outbox : OutboxFramed (effect c s .outside .next .0) (payments (effect c s .outside)) = outbox-kept s c k f in
     let brought : DepositsFramed (effect c s .outside) = deposits-kept s c k f in
-    let records : length (effect c s .history) ≤ historyRows = records-kept s c k f in
+    let records : length (effect c s .history) ≤ historyRows = history-few s c o (f .records) in
     record {
-      unclaimed = inbox .count;
-      queued = outbox .count;
+      unclaimed = inbox-few s c o (f .unclaimed);
+      queued = outbox-few s c k o (f .queued);
       records = records;
       balances = balances-below (effect c s) l sheet (brought .lifetime);
       lifetime = brought .lifetime;

@@ -2,17 +2,16 @@
 use Prim.Native.Nat.{_≤_}
 use mathlib.Core.Path.{_≡_}
 use mathlib.Core.Bool.{true}
-use mathlib.Core.List.{_++_}
 use native.Mathlib.Omega.{arith}
-use lib.ListN.{length, take, drop, length-append, take-append-drop}
+use lib.ListN.{length, length-append, take-append-drop}
 use borrow.Author.Tests.{leb-true, le-leb, eqb-true, eq-eqb}
 use Rattle.rules.specs.Limits.{inboxRows, outboxRows, historyRows, highestNumber, highestNext, isMember}
 use Rattle.rules.specs.Lists.{all, ands}
 use Rattle.rules.specs.Tables.{depositShape, paymentShape, recordShape}
 use Rattle.rules.specs.State.{State, Book, view, laid, deskOf, payments, outboxOf}
 use Rattle.rules.specs.Frame.{upToCeiling, depositInLimits, paymentInLimits, numbersRise, noncesRise, inFrame}
-use Rattle.rules.proofs.Laying.{length-rows, rows-laid}
-use Rattle.rules.proofs.Shapes.{depositSound, paymentSound}
+use Rattle.rules.proofs.Laying.{length-rows}
+use Rattle.rules.proofs.Shapes.{view-laid}
 use Rattle.rules.proofs.Tests.{ands-at}
 
 -- the lent tables have their sizes
@@ -49,39 +48,37 @@ sized b h =
 
 -- and its state is framed
 pub framed : (b : Book) → inFrame b ≡ true → Framed (view b)
-unfolding inFrame view
+unfolding inFrame
 framed b h =
-    let out : take (b .desk .inflight) (outboxOf b) ++ drop (b .desk .inflight) (outboxOf b) ≡ outboxOf b = take-append-drop (b .desk .inflight) (outboxOf b) in
     record {
-      unclaimed = rw (length-rows depositShape (b .desk .unclaimed) (b .inbox)) (leb-true (b .desk .unclaimed) 64 (ands-at _ 3 h));
-      queued = rw (out, length-rows paymentShape (b .desk .payments) (b .outbox)) (leb-true (b .desk .payments) 32 (ands-at _ 4 h));
-      records = rw (length-rows recordShape (b .desk .records) (b .history)) (leb-true (b .desk .records) 1024 (ands-at _ 5 h));
+      unclaimed = unfold view in rw (length-rows depositShape (b .desk .unclaimed) (b .inbox)) (leb-true (b .desk .unclaimed) 64 (ands-at _ 3 h));
+      queued = unfold view in rw (take-append-drop (b .desk .inflight) (outboxOf b), length-rows paymentShape (b .desk .payments) (b .outbox)) (leb-true (b .desk .payments) 32 (ands-at _ 4 h));
+      records = unfold view in rw (length-rows recordShape (b .desk .records) (b .history)) (leb-true (b .desk .records) 1024 (ands-at _ 5 h));
       balances = ands-at _ 7 h;
       lifetime = ands-at _ 8 h;
       settled = ands-at _ 9 h;
       inboxFields = ands-at _ 10 h;
-      outboxFields = rw out (ands-at _ 11 h);
+      outboxFields = ands-at _ 11 h;
       numbers = ands-at _ 12 h;
-      nonces = rw out (ands-at _ 13 h);
-      last = leb-true (b .desk .last .0) highestNumber (ands-at _ 14 h);
-      next = leb-true (b .desk .next .0) highestNext (ands-at _ 15 h);
+      nonces = ands-at _ 13 h;
+      last = leb-true (view b .outside .last .0) highestNumber (ands-at _ 14 h);
+      next = leb-true (view b .outside .next .0) highestNext (ands-at _ 15 h);
       holders = ands-at _ 16 h;
     }
 
 -- a framed state, laid into tables that keep their sizes, is in frame
 pub in-frame : (s : State) (b : Book) → Framed s → Sized (laid s b) → inFrame (laid s b) ≡ true
-unfolding inFrame ands laid deskOf
+unfolding inFrame ands
 in-frame s b f z =
     rw (
+      view-laid s b,
       eq-eqb (length (laid s b .inbox)) 256 (z .inboxSize),
       eq-eqb (length (laid s b .outbox)) 128 (z .outboxSize),
       eq-eqb (length (laid s b .history)) 5120 (z .historySize),
-      rows-laid depositShape depositSound (s .inbox) (b .desk .unclaimed) (b .inbox),
-      rows-laid paymentShape paymentSound (payments (s .outside)) (b .desk .payments) (b .outbox),
-      le-leb (length (s .inbox)) 64 (f .unclaimed),
-      le-leb (length (payments (s .outside))) 32 (f .queued),
-      le-leb (length (s .history)) 1024 (f .records),
-      le-leb (length (s .outside .inflight)) (length (payments (s .outside))) (rw length-append (omega arith)),
+      le-leb (laid s b .desk .unclaimed) 64 (unfold laid deskOf in f .unclaimed),
+      le-leb (laid s b .desk .payments) 32 (unfold laid deskOf in f .queued),
+      le-leb (laid s b .desk .records) 1024 (unfold laid deskOf in f .records),
+      le-leb (laid s b .desk .inflight) (laid s b .desk .payments) (unfold laid deskOf in rw length-append (omega arith)),
       f .balances,
       f .lifetime,
       f .settled,

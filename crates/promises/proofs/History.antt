@@ -9,11 +9,12 @@ use borrow.Author.Tests.{le-leb, eq-eqb, ne-eqb}
 use Rattle.promises.specs.Types.{Deposit, Record, ClaimFields, Call}
 use Rattle.rules.specs.Limits.{ceiling, highestNumber}
 use Rattle.rules.specs.Lists.{indexOf}
-use Rattle.rules.specs.State.{State}
+use Rattle.rules.specs.State.{State, firstHolders}
 use Rattle.rules.specs.Effects.{effect, balance, balancesAfter, holder, holdersAfter, matches, recordsOf}
 use Rattle.rules.specs.Frame.{numbersRise}
-use Rattle.rules.specs.History.{kindOf, provenanceOf, Standing, emptyStanding, standingAs, standingAfter, fitsAs, fits, replays}
+use Rattle.rules.specs.History.{kindOf, provenanceOf, Standing, standingFrom, standingAs, standingAfter, fitsAs, fits, replays}
 use Rattle.rules.specs.Facts.{Within, ClaimFit, Fit}
+use Rattle.promises.specs.Started.{standingOf, Replayed}
 use Rattle.lots.specs.Traces.{standingThrough}
 use Rattle.lots.proofs.Agreement.{balance-provenance}
 use Rattle.rules.proofs.Tests.{both, true-within}
@@ -36,15 +37,6 @@ replays-append s [] ys p q = q
 replays-append s (x ∷ xs) ys p q =
     let (e, r) = both (fits s x) (replays (standingAfter s x) xs) p in
     rw e (replays-append (standingAfter s x) xs ys r q)
-
--- the balances and holders of a state
-abbrev pub standingOf : State → Standing
-standingOf s = record { balances = s .balances; holders = s .holders }
-
--- a history that replays, and comes to what the state keeps
-pub record Replayed (s : State) : Type 0 where
-  pub passes : replays emptyStanding (s .history) ≡ true
-  pub comesTo : standingThrough emptyStanding (s .history) ≡ standingOf s
 
 -- the numbers in an inbox lie from 1 to the last accepted
 rise-at : (before last : ℕ) (ds : List Deposit) (i : ℕ) (d : Deposit) → numbersRise before last ds ≡ true → i < length ds
@@ -118,14 +110,14 @@ record-does s (Call.Trace n) = refl
 pub replayed-kept : (s : State) (c : Call) → Fit s c → Framed s → Replayed s → Replayed (effect c s)
 replayed-kept s c k f h =
     record {
-      passes = unfold effect in replays-append emptyStanding (s .history) (recordsOf c) (h .passes) (rw (h .comesTo) (record-fits s c k f));
+      passes = unfold effect in replays-append (standingFrom firstHolders) (s .history) (recordsOf c) (h .passes) (rw (h .comesTo) (record-fits s c k f));
       comesTo = to;
     }
   where
-    to : standingThrough emptyStanding (effect c s .history) ≡ standingOf (effect c s)
-    to = unfold effect in standing-append emptyStanding (s .history) (recordsOf c) ∙ ap (λ (t : Standing). standingThrough t (recordsOf c)) (h .comesTo) ∙ record-does s c
+    to : standingThrough (standingFrom firstHolders) (effect c s .history) ≡ standingOf (effect c s)
+    to = unfold effect in standing-append (standingFrom firstHolders) (s .history) (recordsOf c) ∙ ap (λ (t : Standing). standingThrough t (recordsOf c)) (h .comesTo) ∙ record-does s c
 
 -- ---- provenance
 -- a replay that comes to the kept balances comes to the provenance
 pub provenanced : (s : State) → Replayed s → (m a : ℕ) → balance (s .balances) m a ≡ provenanceOf m a (s .history)
-provenanced s h m a = ap (λ (t : Standing). balance (t .balances) m a) (sym (h .comesTo)) ∙ balance-provenance (s .history) (h .passes) m a
+provenanced s h m a = ap (λ (t : Standing). balance (t .balances) m a) (sym (h .comesTo)) ∙ balance-provenance firstHolders (s .history) (h .passes) m a

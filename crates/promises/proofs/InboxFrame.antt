@@ -5,10 +5,10 @@ use mathlib.Core.Bool.{true, _&&_}
 use mathlib.Core.List.{List, [], _∷_, _++_}
 use native.Mathlib.Omega.{arith}
 use lib.Dec.{leb, ltb}
-use lib.ListN.{length, take, drop, length-append}
+use lib.ListN.{take, drop}
 use borrow.Author.Tests.{leb-true, le-leb, lt-ltb, ltb-true}
 use Rattle.promises.specs.Types.{Deposit, Call}
-use Rattle.rules.specs.Limits.{ceiling, inboxRows, memberCount, assetCount}
+use Rattle.rules.specs.Limits.{ceiling, memberCount, assetCount}
 use Rattle.rules.specs.Lists.{all, indexOf}
 use Rattle.rules.specs.Tables.{edited}
 use Rattle.rules.specs.State.{State}
@@ -17,7 +17,7 @@ use Rattle.rules.specs.Frame.{depositInLimits, numbersRise}
 use Rattle.rules.specs.Facts.{Within, Fit}
 use Rattle.rules.proofs.Tests.{both, true-within}
 use Rattle.promises.proofs.Framed.{Framed}
-use Rattle.promises.proofs.Lists.{all-add, all-without, length-without}
+use Rattle.promises.proofs.Lists.{all-add, all-without}
 
 -- ---- the inbox
 -- a deposit's three facts, and what is left of a list that rises: one parted
@@ -63,13 +63,12 @@ rise-without before last (d ∷ ds) (suc i) h =
 
 -- the frame's clauses on the inbox
 pub record InboxFramed (last : ℕ) (ds : List Deposit) : Type 0 where
-  pub count : length ds ≤ inboxRows
   pub fields : all depositInLimits ds ≡ true
   pub numbers : numbersRise 0 last ds ≡ true
 
 -- they hold of a framed state
 inbox-framed : (s : State) → Framed s → InboxFramed (s .outside .last .0) (s .inbox)
-inbox-framed s f = record { count = f .unclaimed; fields = f .inboxFields; numbers = f .numbers }
+inbox-framed s f = record { fields = f .inboxFields; numbers = f .numbers }
 
 -- a deposit whose fields are within their limits
 deposit-in : (d : Deposit) → Within 1 memberCount (d .member) → Within 1 assetCount (d .asset) → Within 1 ceiling (d .amount) → depositInLimits d ≡ true
@@ -80,14 +79,12 @@ pub inbox-kept : (s : State) (c : Call) → Fit s c → Framed s → InboxFramed
 unfolding effect inboxEdit edited outsideAfter deposited withdrawn sent settledOne
 inbox-kept s (Call.Deposit d) k f =
     record {
-      count = rw (length-append (s .inbox) (d ∷ [])) (omega arith);
       fields = all-add depositInLimits (s .inbox) d (f .inboxFields) (deposit-in d (k .member) (k .asset) (k .amount));
       numbers = rise-add 0 (s .outside .last .0) (s .inbox) d (f .numbers) (omega arith) (omega arith);
     }
 inbox-kept s (Call.Claim c) k f =
     let i : ℕ = indexOf (matches c) (s .inbox) in
     record {
-      count = omega (arith, length-without (s .inbox) i);
       fields = all-without depositInLimits (s .inbox) i (f .inboxFields);
       numbers = rise-without 0 (s .outside .last .0) (s .inbox) i (f .numbers);
     }

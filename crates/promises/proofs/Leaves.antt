@@ -1,9 +1,8 @@
 -- What an accepted call leaves, on every book.
 use mathlib.Core.Path.{_≡_, ap, _∙_}
 use Rattle.promises.specs.Types.{Call}
-use Rattle.rules.specs.State.{Book, view, laid}
-use Rattle.rules.specs.Effects.{effect}
-use Rattle.rules.specs.Answer.{answer}
+use Rattle.rules.specs.State.{Book, laid}
+use Rattle.rules.specs.Answer.{done, answer}
 use Rattle.rules.specs.Facts.{Accepted}
 use Rattle.rules.proofs.Accepts.{book-accepted, state-accepted}
 use Rattle.rules.proofs.Books.{inbox-left, outbox-left, history-left}
@@ -12,7 +11,7 @@ use Rattle.promises.specs.Promises.{Leaves}
 pub leaves : (b : Book) (c : Call) → Accepted b c → Leaves b c
 unfolding laid
 leaves b c a =
-    let e : answer b c .book ≡ laid (effect c (view b)) b = book-accepted b c a in
+    let e : answer b c .book ≡ done c b = book-accepted b c a in
     record {
       state = state-accepted b c a;
       desk = ap (λ (x : Book). x .desk) e;

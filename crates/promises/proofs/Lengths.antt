@@ -1,19 +1,12 @@
 -- The desk's lists have their lengths, and keep them.
-use Prim.Native.Nat.{_-_, _*_}
-use mathlib.Core.Path.{_≡_, _∙_}
-use lib.ListN.{length, length-set}
+use Prim.Native.Nat.{_-_}
+use mathlib.Core.Path.{_∙_}
+use lib.ListN.{length-set}
 use Rattle.promises.specs.Types.{Payment, Call}
-use Rattle.rules.specs.Limits.{memberCount, assetCount, domainCount}
 use Rattle.rules.specs.State.{State}
 use Rattle.rules.specs.Effects.{effect, debit, balancesAfter, holdersAfter, oldest, deposited, withdrawn, sent, settledOne, outsideAfter}
+use Rattle.promises.specs.Started.{Lengths}
 use Rattle.promises.proofs.Cells.{length-credit, length-debit, length-raised}
-
--- the desk's lists have their lengths
-pub record Lengths (s : State) : Type 0 where
-  pub balances : length (s .balances) ≡ memberCount * assetCount
-  pub holders : length (s .holders) ≡ domainCount
-  pub lifetime : length (s .outside .lifetime) ≡ assetCount
-  pub settled : length (s .outside .settled) ≡ assetCount
 
 -- no call changes how long the lists are
 pub lengths-kept : (s : State) (c : Call) → Lengths s → Lengths (effect c s)

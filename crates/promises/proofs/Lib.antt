@@ -20,6 +20,7 @@ pub mod TableSizes
 pub mod Lengths
 pub mod Sheet
 pub mod OutboxFrame
+pub mod RowCounts
 pub mod InboxFrame
 pub mod Ceilings
 pub mod Frame
@@ -35,7 +36,8 @@ pub mod Unclaimed
 pub mod Payments
 pub mod OldestFirst
 pub mod Traces
-pub mod ReadyBooks
+pub mod StartedBooks
+pub mod Since
 pub mod Demand2
 pub mod Demand3Unwinding
 pub mod OutsideMachine

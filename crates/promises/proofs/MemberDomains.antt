@@ -11,7 +11,7 @@ use lib.Seq.{getD-set-same, getD-set-other}
 use borrow.Author.Tests.{ltb-true, ltb-false, eqb-true, eqb-false}
 use Rattle.promises.specs.Types.{GrantFields, Call}
 use Rattle.rules.specs.Limits.{isDomain}
-use Rattle.rules.specs.State.{State, Book, Empty, view}
+use Rattle.rules.specs.State.{State, Book, view}
 use Rattle.rules.specs.Effects.{effect, holder, holdersAfter}
 use Rattle.rules.specs.Runs.{run}
 use Rattle.rules.specs.Views.{namesMember, seenBy}
@@ -105,7 +105,7 @@ holds-others m s (Call.Sign g) f h = refl
 holds-others m s (Call.Trace n) f h = refl
 
 -- so two runs that the member sees alike leave the member the same domains
-pub same-domains : (m : ℕ) (b b′ : Book) → Empty b → Empty b′ → (cs cs′ : List Call) → seenBy m b cs ≡ seenBy m b′ cs′
+pub same-domains : (m : ℕ) (b b′ : Book) → holds m (view b) ≡ holds m (view b′) → (cs cs′ : List Call) → seenBy m b cs ≡ seenBy m b′ cs′
     → holds m (view (run b cs)) ≡ holds m (view (run b′ cs′))
 same-domains m =
     member-unwound m (holds m) (passed m) (λ b c a h. holds-named m (view b) c (fit b c a))

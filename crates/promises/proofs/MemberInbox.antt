@@ -9,7 +9,7 @@ use borrow.Author.Tests.{eqb-true}
 use Rattle.promises.specs.Types.{Deposit, ClaimFields, Call}
 use Rattle.rules.specs.Lists.{those, indexOf}
 use Rattle.rules.specs.Tables.{edited}
-use Rattle.rules.specs.State.{State, Book, Empty, view}
+use Rattle.rules.specs.State.{State, Book, view}
 use Rattle.rules.specs.Effects.{effect, matches, inboxEdit}
 use Rattle.rules.specs.Runs.{run}
 use Rattle.rules.specs.Views.{namesMember, seenBy}
@@ -90,7 +90,7 @@ inbox-others m (Call.Sign g) inbox h = refl
 inbox-others m (Call.Trace n) inbox h = refl
 
 -- so two runs that the member sees alike leave the member the same unclaimed deposits, in the same order
-pub same-unclaimed : (m : ℕ) (b b′ : Book) → Empty b → Empty b′ → (cs cs′ : List Call) → seenBy m b cs ≡ seenBy m b′ cs′
+pub same-unclaimed : (m : ℕ) (b b′ : Book) → those (isFor m) (view b .inbox) ≡ those (isFor m) (view b′ .inbox) → (cs cs′ : List Call) → seenBy m b cs ≡ seenBy m b′ cs′
     → those (isFor m) (view (run b cs) .inbox) ≡ those (isFor m) (view (run b′ cs′) .inbox)
 unfolding effect
 same-unclaimed m =

@@ -7,15 +7,16 @@ use lib.Dec.{eqb}
 use lib.Seq.{append-snoc}
 use Rattle.promises.specs.Types.{Record, Call}
 use Rattle.rules.specs.Lists.{those}
-use Rattle.rules.specs.State.{State, Book, Empty, view}
+use Rattle.rules.specs.State.{State, Book, view}
 use Rattle.rules.specs.Effects.{effect, balance, recordsOf}
 use Rattle.rules.specs.History.{Kind, kindOf, counted, countedAs, provenanceOf, names, namesAs, statement}
 use Rattle.rules.specs.Runs.{run}
 use Rattle.rules.specs.Views.{namesMember, seenBy}
 use Rattle.lots.proofs.ListLaws.{those-append}
 use Rattle.lots.proofs.ProvenanceLaws.{provenance-last}
+use Rattle.promises.specs.Started.{Started}
 use Rattle.promises.proofs.History.{provenanced}
-use Rattle.promises.proofs.Reached.{ready-empty, ready-run}
+use Rattle.promises.proofs.Reached.{started-run}
 use Rattle.promises.proofs.MemberUnwinding.{member-unwound}
 
 -- ---- the statement
@@ -38,7 +39,7 @@ unnamed-record m (Call.Sign g) h = refl
 unnamed-record m (Call.Trace n) h = refl
 
 -- so two runs that the member sees alike leave the member the same statement
-pub same-statement : (m : ℕ) (b b′ : Book) → Empty b → Empty b′ → (cs cs′ : List Call) → seenBy m b cs ≡ seenBy m b′ cs′
+pub same-statement : (m : ℕ) (b b′ : Book) → statement m (view b .history) ≡ statement m (view b′ .history) → (cs cs′ : List Call) → seenBy m b cs ≡ seenBy m b′ cs′
     → statement m (view (run b cs) .history) ≡ statement m (view (run b′ cs′) .history)
 unfolding effect
 same-statement m =
@@ -81,12 +82,12 @@ provenance-statement m a h = provenance-more m a h [] (unfold statement those in
 
 -- ---- the balances
 -- a member's balance in any asset is the provenance of the history, and so of the member's statement
-balance-statement : (m : ℕ) (b : Book) → Empty b → (cs : List Call) (a : ℕ) → balance (view (run b cs) .balances) m a ≡ provenanceOf m a (statement m (view (run b cs) .history))
-balance-statement m b e cs a =
-    provenanced (view (run b cs)) (ready-run b cs (ready-empty b e) .good .replayed) m a ∙ sym (provenance-statement m a (view (run b cs) .history))
+balance-statement : (m : ℕ) (b : Book) → Started b → (cs : List Call) (a : ℕ) → balance (view (run b cs) .balances) m a ≡ provenanceOf m a (statement m (view (run b cs) .history))
+balance-statement m b r cs a =
+    provenanced (view (run b cs)) (started-run b cs r .agreed .replayed) m a ∙ sym (provenance-statement m a (view (run b cs) .history))
 
 -- so two runs that the member sees alike leave the member the same balances
-pub same-balances : (m : ℕ) (b b′ : Book) → Empty b → Empty b′ → (cs cs′ : List Call) → seenBy m b cs ≡ seenBy m b′ cs′
+pub same-balances : (m : ℕ) (b b′ : Book) → Started b → Started b′ → statement m (view b .history) ≡ statement m (view b′ .history) → (cs cs′ : List Call) → seenBy m b cs ≡ seenBy m b′ cs′
     → (a : ℕ) → balance (view (run b cs) .balances) m a ≡ balance (view (run b′ cs′) .balances) m a
-same-balances m b b′ e e′ cs cs′ alike a =
-    balance-statement m b e cs a ∙ ap (λ (st : List Record). provenanceOf m a st) (same-statement m b b′ e e′ cs cs′ alike) ∙ sym (balance-statement m b′ e′ cs′ a)
+same-balances m b b′ r r′ start cs cs′ alike a =
+    balance-statement m b r cs a ∙ ap (λ (st : List Record). provenanceOf m a st) (same-statement m b b′ start cs cs′ alike) ∙ sym (balance-statement m b′ r′ cs′ a)

@@ -1,16 +1,15 @@
 -- Unwinding for one member: what is seen of a call is the call itself where it names the member, and nothing where it does not.
 use Prim.Native.Nat.{ℕ}
-use mathlib.Core.Path.{_≡_, refl, sym, ap, _∙_}
+use mathlib.Core.Path.{_≡_, refl, sym, _∙_}
 use mathlib.Core.Bool.{Bool, true, false, cond}
 use mathlib.Core.List.{List, [], _∷_, foldl}
 use Rattle.promises.specs.Types.{Call}
 use Rattle.rules.specs.Lists.{those}
-use Rattle.rules.specs.State.{State, Book, Empty, view}
+use Rattle.rules.specs.State.{State, Book, view}
 use Rattle.rules.specs.Effects.{effect}
 use Rattle.rules.specs.Runs.{run, accepted}
 use Rattle.rules.specs.Views.{namesMember, seenBy}
 use Rattle.rules.specs.Facts.{Accepted}
-use Rattle.promises.proofs.Base.{view-empty}
 use Rattle.promises.proofs.Demand3Unwinding.{those-joined, shownBy, unwound}
 
 -- where each thing shows nothing, a list of them shows nothing
@@ -31,12 +30,12 @@ module _ {W : Type 0} (m : ℕ) (look : State → W) (moved : W → Call → W)
       go true e = named b c a e
       go false e = others b c a e
 
-  -- two runs from empty books in which the member sees the same leave the same view
-  pub member-unwound : (b b′ : Book) → Empty b → Empty b′ → (cs cs′ : List Call) → seenBy m b cs ≡ seenBy m b′ cs′
+  -- two runs from books that look the same, in which the member sees the same, leave the same view
+  pub member-unwound : (b b′ : Book) → look (view b) ≡ look (view b′) → (cs cs′ : List Call) → seenBy m b cs ≡ seenBy m b′ cs′
       → look (view (run b cs)) ≡ look (view (run b′ cs′))
   unfolding seenBy
-  member-unwound b b′ e e′ cs cs′ alike =
+  member-unwound b b′ start cs cs′ alike =
       unwound (λ c. those (namesMember m) (c ∷ [])) look (λ c d. []) moved (λ w c. []) moves-seen (λ c d a. silent moved (look (view c)) (those (namesMember m) (d ∷ []))) b b′ cs cs′
-      (ap look (view-empty b e ∙ sym (view-empty b′ e′)))
+      start
       (sym (those-joined (namesMember m) (accepted b cs)) ∙ alike ∙ those-joined (namesMember m) (accepted b′ cs′))
       .0

@@ -6,7 +6,7 @@ use mathlib.Core.List.{List, [], _∷_}
 use lib.ListN.{take}
 use Rattle.promises.specs.Types.{Nonce, Record, Lot}
 use Rattle.rules.specs.Lists.{those, joined}
-use Rattle.rules.specs.History.{Kind, kindOf, withdrawals, Standing, emptyStanding, standingAfter, fitsAs, fits, replays, historyInFrame}
+use Rattle.rules.specs.History.{Kind, kindOf, withdrawals, Standing, standingFrom, standingAfter, fitsAs, fits, replays, passesFrom}
 use Rattle.rules.specs.Lots.{line, lotsAs, lotsAfter, replay, pieces}
 use Rattle.rules.proofs.Tests.{both}
 use Rattle.lots.specs.Traces.{coins, nthWithdrawal, beforePayment}
@@ -37,9 +37,9 @@ same-lines (r ∷ h) s ls lines f e =
     same-lines h (standingAfter s r) (lotsAfter ls r) (coinsAs (kindOf r) r lines) q (same-record (kindOf r) s r ls lines p e)
 
 -- so the pieces of payment n are the first coins of the payer's line
-pub oldest-first : (h : List Record) (n : Nonce) → historyInFrame h ≡ true → n .0 < withdrawals h
+pub oldest-first : (holders : List ℕ) (h : List Record) (n : Nonce) → passesFrom holders h ≡ true → n .0 < withdrawals h
     → coins (pieces h n) ≡ take (nthWithdrawal (n .0) h .amount) (coinsIn (beforePayment (n .0) h) (nthWithdrawal (n .0) h .first) (nthWithdrawal (n .0) h .asset))
-oldest-first h n f i =
+oldest-first holders h n f i =
     let w : Record = nthWithdrawal (n .0) h in
     trace-coins h n i
-    ∙ ap (take (w .amount)) (same-lines (beforePayment (n .0) h) emptyStanding [] (λ m a. []) (payment-covered (n .0) h f i .framed) (unfold line those joined in λ m a. refl) (w .first) (w .asset))
+    ∙ ap (take (w .amount)) (same-lines (beforePayment (n .0) h) (standingFrom holders) [] (λ m a. []) (payment-covered holders (n .0) h f i .framed) (unfold line those joined in λ m a. refl) (w .first) (w .asset))

@@ -7,8 +7,8 @@ use native.Mathlib.Omega.{arith}
 use lib.Dec.{leb, eqb}
 use lib.ListN.{length, drop, length-append}
 use borrow.Author.Tests.{leb-true, le-leb, eq-eqb}
-use Rattle.promises.specs.Types.{Deposit, Payment, Call}
-use Rattle.rules.specs.Limits.{ceiling, outboxRows, assetCount}
+use Rattle.promises.specs.Types.{Payment, Call}
+use Rattle.rules.specs.Limits.{ceiling, assetCount}
 use Rattle.rules.specs.Lists.{all}
 use Rattle.rules.specs.State.{Outside, State, payments}
 use Rattle.rules.specs.Effects.{effect, paymentOf, deposited, withdrawn, sent, settledOne, outsideAfter}
@@ -49,13 +49,12 @@ rises-first next p ps h =
 
 -- the frame's clauses on the outbox
 pub record OutboxFramed (next : ℕ) (ps : List Payment) : Type 0 where
-  pub count : length ps ≤ outboxRows
   pub fields : all paymentInLimits ps ≡ true
   pub nonces : noncesRise next ps ≡ true
 
 -- they hold of a framed state
 outbox-framed : (s : State) → Framed s → OutboxFramed (s .outside .next .0) (payments (s .outside))
-outbox-framed s f = record { count = f .queued; fields = f .outboxFields; nonces = f .nonces }
+outbox-framed s f = record { fields = f .outboxFields; nonces = f .nonces }
 
 -- a payment whose fields are within their limits
 payment-in : (p : Payment) → Within 1 assetCount (p .asset) → Within 1 ceiling (p .amount) → Within 1 65_535 (p .payee) → paymentInLimits p ≡ true
@@ -67,7 +66,6 @@ unfolding all
 first-leaves next [] waiting h f = absurd (omega arith)
 first-leaves next (p ∷ ps) waiting h f =
     record {
-      count = omega (arith, f .count);
       fields = both (paymentInLimits p) (all paymentInLimits (ps ++ waiting)) (f .fields) .1;
       nonces = rises-first next p (ps ++ waiting) (f .nonces);
     }
@@ -83,7 +81,6 @@ outbox-kept s (Call.Withdraw w) k f =
     let p : Payment = paymentOf w (o .next) in
     rw (← append-assoc (o .inflight) (o .waiting) (p ∷ []))
     record {
-      count = rw (length-append (payments o) (p ∷ [])) (omega arith);
       fields = all-add paymentInLimits (payments o) p (f .outboxFields) (payment-in p (k .asset) (k .amount) (k .payee));
       nonces = rises-add (o .next .0) (payments o) p (f .nonces) refl;
     }

@@ -90,8 +90,8 @@ settles-as-seen b (Call.Grant g) = refl
 settles-as-seen b (Call.Sign g) = refl
 settles-as-seen b (Call.Trace n) = refl
 
--- two runs from empty books, in which the outside sees the same
-module _ (b b′ : Book) (e : Empty b) (e′ : Empty b′) (cs cs′ : List Call) (alike : seenOutside b cs ≡ seenOutside b′ cs′) where
+-- two runs from books that look the same from outside, in which the outside sees the same
+module _ (b b′ : Book) (start : view b .outside ≡ view b′ .outside) (cs cs′ : List Call) (alike : seenOutside b cs ≡ seenOutside b′ cs′) where
   -- whatever the machine shows on the way is the same, and the outside part of the book at the end
   same-outside : {A : Type 0} (out : Book → Call → List A) (shown : Outside → Seen → List A)
       → ((c : Book) (d : Call) → out c d ≡ shownBy movedOutside shown (view c .outside) (outsideOf d))
@@ -99,7 +99,7 @@ module _ (b b′ : Book) (e : Empty b) (e′ : Empty b′) (cs cs′ : List Call
   unfolding seenOutside effect
   same-outside out shown shows =
       unwound outsideOf (λ (s : State). s .outside) out movedOutside shown (λ c d a. moves-outside d (view c .outside)) (λ c d a. shows c d) b b′ cs cs′
-      (ap (λ (s : State). s .outside) (view-empty b e ∙ sym (view-empty b′ e′))) alike
+      start alike
 
   same-view : outsideView b cs ≡ outsideView b′ cs′
   unfolding outsideView chainTotal acceptedDeposits settledSum
@@ -117,9 +117,13 @@ module _ (b b′ : Book) (e : Empty b) (e′ : Empty b′) (cs cs′ : List Call
         chainTotals = map (λ a. sumOf (depositedIn a) (ds i) - sumOf (paidIn a) (ss i)) (upFrom 1 assetCount);
       }
 
+-- as any two empty books do
+empty-outside : (b b′ : Book) → Empty b → Empty b′ → view b .outside ≡ view b′ .outside
+empty-outside b b′ e e′ = ap (λ (s : State). s .outside) (view-empty b e ∙ sym (view-empty b′ e′))
+
 -- demand 3, the outside
 pub outside-told : OutsideTold
-outside-told = same-view
+outside-told b b′ e e′ = same-view b b′ (empty-outside b b′ e e′)
 
 pub outside-agreed : OutsideAgreed
-outside-agreed b b′ e e′ cs cs′ alike = same-outside b b′ e e′ cs cs′ alike depositing depositSeen brings .0
+outside-agreed b b′ e e′ cs cs′ alike = same-outside b b′ (empty-outside b b′ e e′) cs cs′ alike depositing depositSeen brings .0

@@ -1,34 +1,35 @@
--- Records and payments: the history is the records of the accepted calls, and the payments made are its withdrawals, in order, with nonces from 0 on.
-use Prim.Native.Nat.{ℕ, zero, suc, _+_, _<_}
-use mathlib.Core.Path.{_≡_, refl, ap, _∙_}
-use mathlib.Core.List.{List, [], _∷_, _++_, append-nil}
+-- Records and payments, from a start on: the records of the accepted calls join the history, and the payments queued are its withdrawals, in order, with nonces from the next one on.
+use Prim.Native.Nat.{ℕ, zero, suc, _+_, _-_, _≤_, _<_}
+use mathlib.Core.Path.{_≡_, refl, sym, ap, _∙_}
+use mathlib.Core.List.{List, [], _∷_, _++_, append-nil, append-assoc}
 use native.Mathlib.Nat.{add-zero, zero-add}
 use native.Mathlib.Omega.{arith}
 use lib.ListN.{length, getD}
+use lib.Seq.{getD-append-add}
 use Rattle.promises.specs.Types.{Nonce, Payment, Record, Call}
 use Rattle.rules.specs.Lists.{those, joined}
-use Rattle.rules.specs.State.{State, Book, view, laid, emptyState, Empty}
+use Rattle.rules.specs.State.{Book, view}
 use Rattle.rules.specs.Effects.{effect, recordsOf}
 use Rattle.rules.specs.History.{isWithdrawal, withdrawals}
 use Rattle.rules.specs.Runs.{run, itself, accepted}
-use Rattle.rules.proofs.Shapes.{view-laid}
 use Rattle.rules.proofs.Laying.{joined-append}
 use Rattle.rules.specs.Facts.{Accepted}
 use Rattle.lots.specs.Traces.{nthWithdrawal}
 use Rattle.lots.proofs.ListLaws.{those-append}
-use Rattle.promises.specs.Demand2.{queueing, queued, waitingIn, noPayment, made, paymentBy}
-use Rattle.promises.proofs.Base.{view-empty, run-keeps}
-use Rattle.promises.proofs.Reached.{Ready, ready-empty, ready-keeps}
-use Rattle.promises.proofs.Queue.{in-line}
+use Rattle.promises.specs.Demand2.{queueing, queued, noPayment, paymentBy}
+use Rattle.promises.proofs.Base.{run-keeps}
+use Rattle.promises.specs.Started.{Started}
+use Rattle.promises.proofs.Reached.{started-keeps}
 
 -- ---- records
--- what the accepted calls so far wrote is the history
-pub records-run : (b : Book) (cs : List Call) → Empty b → view (run b cs) .history ≡ joined recordsOf (accepted b cs)
-records-run b cs e = run-keeps itself (λ b c. []) (λ xs (ys : List ℕ) b. view b .history ≡ joined recordsOf xs) kept b cs (rw (view-empty b e) (unfold emptyState joined in refl))
+-- the history is what was there, and then what the accepted calls wrote
+pub records-run : (b : Book) (cs : List Call) → view (run b cs) .history ≡ view b .history ++ joined recordsOf (accepted b cs)
+records-run b cs = run-keeps itself (λ b c. []) (λ xs (ys : List ℕ) s. s .history ≡ view b .history ++ joined recordsOf xs) kept b cs (unfold joined in sym (append-nil (view b .history)))
   where
-    kept : (xs : List Call) (ys : List ℕ) (b : Book) (c : Call) → Accepted b c → view b .history ≡ joined recordsOf xs
-        → view (laid (effect c (view b)) b) .history ≡ joined recordsOf (xs ++ (c ∷ []))
-    kept xs ys b c a h = rw (view-laid (effect c (view b)) b, joined-append recordsOf xs (c ∷ []), ← h) (unfold effect joined in rw (append-nil (recordsOf c)))
+    kept : (xs : List Call) (ys : List ℕ) (d : Book) (c : Call) → Accepted d c → view d .history ≡ view b .history ++ joined recordsOf xs
+        → effect c (view d) .history ≡ view b .history ++ joined recordsOf (xs ++ (c ∷ []))
+    kept xs ys d c a h =
+        rw (joined-append recordsOf xs (c ∷ []), ← append-assoc (view b .history) (joined recordsOf xs) (joined recordsOf (c ∷ [])), ← h) (unfold effect joined in rw (append-nil (recordsOf c)))
 
 -- ---- payments
 -- the payments that withdrawals' records stand for, with nonces from a first one on
@@ -72,42 +73,44 @@ one-payment qs h r n e i p =
     (ap (λ (k : ℕ). qs ++ (paymentBy r (record { 0 = k }) ∷ [])) i)
 
 -- the payments queued so far are those of the history's withdrawals: kept by every accepted call
-queued-kept : (qs : List Payment) (ys : List ℕ) (b : Book) (c : Call) → Accepted b c → Ready b → qs ≡ paymentsFrom 0 (those isWithdrawal (view b .history))
+queued-kept : (qs : List Payment) (ys : List ℕ) (b : Book) (c : Call) → Accepted b c → Started b → qs ≡ paymentsFrom 0 (those isWithdrawal (view b .history))
     → qs ++ queueing b c ≡ paymentsFrom 0 (those isWithdrawal (effect c (view b) .history))
 unfolding queueing effect recordsOf those
 queued-kept qs ys b (Call.Deposit d) a r h = no-payment qs (view b .history) [] refl h
 queued-kept qs ys b (Call.Claim c) a r h = no-payment qs (view b .history) (recordsOf (Call.Claim c)) refl h
 queued-kept qs ys b (Call.Transfer t) a r h = no-payment qs (view b .history) (recordsOf (Call.Transfer t)) refl h
 queued-kept qs ys b (Call.Withdraw w) a r h =
-    one-payment qs (view b .history) (record { kind = 3; asset = w .asset; amount = w .amount; first = w .member; second = w .payee }) (view b .outside .next) refl (r .good .counts) h
+    one-payment qs (view b .history) (record { kind = 3; asset = w .asset; amount = w .amount; first = w .member; second = w .payee }) (view b .outside .next) refl (r .agreed .counts) h
 queued-kept qs ys b Call.Send a r h = no-payment qs (view b .history) [] refl h
 queued-kept qs ys b (Call.Settle n) a r h = no-payment qs (view b .history) [] refl h
 queued-kept qs ys b (Call.Grant g) a r h = no-payment qs (view b .history) (recordsOf (Call.Grant g)) refl h
 queued-kept qs ys b (Call.Sign g) a r h = no-payment qs (view b .history) [] refl h
 queued-kept qs ys b (Call.Trace n) a r h = no-payment qs (view b .history) [] refl h
 
--- so the payments made are those of the history's withdrawals, in their order
-made-run : (b : Book) (cs : List Call) → Empty b → made b cs ≡ paymentsFrom 0 (those isWithdrawal (view (run b cs) .history))
-made-run b cs e = in-line b cs (ready-empty b e) ∙ rw nothing queue
+-- those of the withdrawals that were there, and then those queued since, are those of the history's withdrawals, in their order
+queued-run : (b : Book) (cs : List Call) → Started b
+    → paymentsFrom 0 (those isWithdrawal (view b .history)) ++ queued b cs ≡ paymentsFrom 0 (those isWithdrawal (view (run b cs) .history))
+queued-run b cs r =
+    started-keeps queueing (λ b c. []) (λ qs (ys : List ℕ) s. first ++ qs ≡ paymentsFrom 0 (those isWithdrawal (s .history))) kept b cs r (append-nil first)
   where
-    nothing : waitingIn b ≡ []
-    nothing = ap (λ (s : State). s .outside .waiting) (view-empty b e) ∙ unfold emptyState in refl
+    first : List Payment
+    first = paymentsFrom 0 (those isWithdrawal (view b .history))
 
-    queue : queued b cs ≡ paymentsFrom 0 (those isWithdrawal (view (run b cs) .history))
-    queue =
-        ready-keeps queueing (λ b c. []) (λ qs (ys : List ℕ) s. qs ≡ paymentsFrom 0 (those isWithdrawal (s .history))) queued-kept b cs (ready-empty b e)
-        (rw (view-empty b e) (unfold emptyState those paymentsFrom in refl))
+    kept : (qs : List Payment) (ys : List ℕ) (d : Book) (c : Call) → Accepted d c → Started d → first ++ qs ≡ paymentsFrom 0 (those isWithdrawal (view d .history))
+        → first ++ (qs ++ queueing d c) ≡ paymentsFrom 0 (those isWithdrawal (effect c (view d) .history))
+    kept qs ys d c a r h = sym (append-assoc first qs (queueing d c)) ∙ queued-kept (first ++ qs) ys d c a r h
 
--- as many as there are withdrawals
-pub made-count : (b : Book) (cs : List Call) → Empty b → length (made b cs) ≡ withdrawals (view (run b cs) .history)
+-- so payment n is the withdrawal with n before it
+pub queued-nth : (b : Book) (cs : List Call) → Started b → (n : Nonce) → view b .outside .next .0 ≤ n .0 → n .0 < withdrawals (view (run b cs) .history)
+    → getD (queued b cs) (n .0 - view b .outside .next .0) noPayment ≡ paymentBy (nthWithdrawal (n .0) (view (run b cs) .history)) n
 unfolding withdrawals
-made-count b cs e = ap length (made-run b cs e) ∙ payments-count 0 (those isWithdrawal (view (run b cs) .history))
-
--- and payment n is the one with n withdrawals before it
-pub made-nth : (b : Book) (cs : List Call) → Empty b → (n : Nonce) → n .0 < withdrawals (view (run b cs) .history)
-    → getD (made b cs) (n .0) noPayment ≡ paymentBy (nthWithdrawal (n .0) (view (run b cs) .history)) n
-unfolding withdrawals
-made-nth b cs e n i =
-    ap (λ (ps : List Payment). getD ps (n .0) noPayment) (made-run b cs e)
+queued-nth b cs r n low i =
+    let first : List Payment = paymentsFrom 0 (those isWithdrawal (view b .history)) in
+    let k : ℕ = view b .outside .next .0 in
+    let l : length first ≡ k = payments-count 0 (those isWithdrawal (view b .history)) ∙ sym (r .agreed .counts) in
+    let e : length first + (n .0 - k) ≡ n .0 = omega arith in
+    sym (getD-append-add first (queued b cs) (n .0 - k) noPayment)
+    ∙ ap (λ (j : ℕ). getD (first ++ queued b cs) j noPayment) e
+    ∙ ap (λ (ps : List Payment). getD ps (n .0) noPayment) (queued-run b cs r)
     ∙ payment-nth 0 (those isWithdrawal (view (run b cs) .history)) (n .0) (record { kind = 0; asset = 0; amount = 0; first = 0; second = 0 }) i
     ∙ rw (zero-add (n .0))

@@ -18,16 +18,17 @@ use Rattle.rules.specs.Facts.{Accepted, SendFit}
 use Rattle.promises.specs.Demand2.{queueing, queued, isSend, sendCalls, waitingIn, noPayment}
 use Rattle.promises.specs.Promises.{Queue}
 use Rattle.rules.proofs.Accepts.{accepted-number, fit}
-use Rattle.promises.proofs.Reached.{Ready, ready-run, ready-keeps}
+use Rattle.promises.specs.Started.{Started}
+use Rattle.promises.proofs.Reached.{started-run, started-keeps}
 use Rattle.promises.proofs.Accepts.{accepts}
 use Rattle.promises.proofs.Order.{moved}
 
 -- ---- a send is accepted whenever something waits
-pub send-accepted : (b : Book) → Ready b → 1 ≤ length (waitingIn b) → Accepted b Call.Send
-send-accepted b r h = accepts b Call.Send r .1 (record { some = h })
+pub send-accepted : (b : Book) → Started b → 1 ≤ length (waitingIn b) → Accepted b Call.Send
+send-accepted b r h = accepts b Call.Send r .1 (record { some = h }, record {})
 
 -- and it answers the oldest
-send-answers : (b : Book) → Ready b → 1 ≤ length (waitingIn b) → answer b Call.Send .reply ≡ told (Answer.Sent (oldest (waitingIn b)))
+send-answers : (b : Book) → Started b → 1 ≤ length (waitingIn b) → answer b Call.Send .reply ≡ told (Answer.Sent (oldest (waitingIn b)))
 unfolding answer doneAnswer
 send-answers b r h = rw (accepted-number b Call.Send (send-accepted b r h))
 
@@ -35,7 +36,7 @@ send-answers b r h = rw (accepted-number b Call.Send (send-accepted b r h))
 -- what was sent and then waits is what waited and then was queued: kept by every accepted call
 module _ (first : List Payment) where
   -- the payment that a send takes from the front, and the one that a withdrawal puts at the end
-  line-kept : (ss qs : List Payment) (b : Book) (c : Call) → Accepted b c → Ready b → ss ++ waitingIn b ≡ first ++ qs
+  line-kept : (ss qs : List Payment) (b : Book) (c : Call) → Accepted b c → Started b → ss ++ waitingIn b ≡ first ++ qs
       → ss ++ sending b c ++ effect c (view b) .outside .waiting ≡ first ++ (qs ++ queueing b c)
   unfolding sending queueing effect outsideAfter deposited withdrawn sent settledOne
   line-kept ss qs b (Call.Deposit d) a r h = rw (append-nil ss, append-nil qs) h
@@ -53,9 +54,9 @@ module _ (first : List Payment) where
   line-kept ss qs b (Call.Trace n) a r h = rw (append-nil ss, append-nil qs) h
 
 -- so it holds after any further calls
-pub in-line : (b : Book) (further : List Call) → Ready b → sends b further ++ waitingIn (run b further) ≡ waitingIn b ++ queued b further
+pub in-line : (b : Book) (further : List Call) → Started b → sends b further ++ waitingIn (run b further) ≡ waitingIn b ++ queued b further
 in-line b further r =
-    ready-keeps sending queueing (λ ss qs s. ss ++ s .outside .waiting ≡ waitingIn b ++ qs) (line-kept (waitingIn b)) b further r (sym (append-nil (waitingIn b)))
+    started-keeps sending queueing (λ ss qs s. ss ++ s .outside .waiting ≡ waitingIn b ++ qs) (line-kept (waitingIn b)) b further r (sym (append-nil (waitingIn b)))
 
 -- ---- enough sends
 -- nothing sent is nothing sent, accepted or not
@@ -64,7 +65,7 @@ nothing zero = refl
 nothing (suc n) = refl
 
 -- what one call sends: one payment if it is a send and something waits, else none
-sent-count : (b : Book) (c : Call) → Ready b → 1 ≤ length (waitingIn b) → length (if-done (replyNumber b c) (sending b c) []) ≡ isSend c
+sent-count : (b : Book) (c : Call) → Started b → 1 ≤ length (waitingIn b) → length (if-done (replyNumber b c) (sending b c) []) ≡ isSend c
 unfolding sending isSend
 sent-count b (Call.Deposit d) r h = nothing (replyNumber b (Call.Deposit d))
 sent-count b (Call.Claim c) r h = nothing (replyNumber b (Call.Claim c))
@@ -77,7 +78,7 @@ sent-count b (Call.Sign g) r h = nothing (replyNumber b (Call.Sign g))
 sent-count b (Call.Trace n) r h = nothing (replyNumber b (Call.Trace n))
 
 -- a call takes from those that wait at most what it sends
-waits-on : (b : Book) (c : Call) → Ready b → length (waitingIn b) ≤ length (if-done (replyNumber b c) (sending b c) []) + length (waitingIn (bookAfter b c))
+waits-on : (b : Book) (c : Call) → Started b → length (waitingIn b) ≤ length (if-done (replyNumber b c) (sending b c) []) + length (waitingIn (bookAfter b c))
 unfolding gather run
 waits-on b c r =
     let x : List Payment = if-done (replyNumber b c) (sending b c) [] in
@@ -85,12 +86,12 @@ waits-on b c r =
     omega (arith, simp length-append at (ap length e))
 
 -- of send calls, accepted or not, that are more than stand before a waiting payment, more than that are accepted
-pub sends-suffice : (b : Book) (further : List Call) → Ready b → (k : ℕ) → k < length (waitingIn b) → k < sendCalls further → k < length (sends b further)
+pub sends-suffice : (b : Book) (further : List Call) → Started b → (k : ℕ) → k < length (waitingIn b) → k < sendCalls further → k < length (sends b further)
 unfolding sendCalls gather run
 sends-suffice b [] r k h n = absurd (omega arith)
 sends-suffice b (c ∷ cs) r k h n =
     rw (length-append (if-done (replyNumber b c) (sending b c) []) (sends (bookAfter b c) cs))
-    (go (ltb k x) refl (sends-suffice (bookAfter b c) cs (ready-run b (c ∷ []) r) (k - x)))
+    (go (ltb k x) refl (sends-suffice (bookAfter b c) cs (started-run b (c ∷ []) r) (k - x)))
   where
     x : ℕ
     x = length (if-done (replyNumber b c) (sending b c) [])
@@ -105,7 +106,7 @@ sends-suffice b (c ∷ cs) r k h n =
         omega (arith, ih (omega (arith, waits-on b c r)) (omega arith))
 
 -- the payment at a place of what waits is the one that the send of that place sends
-pub sent-at : (b : Book) (further : List Call) → Ready b → (k : ℕ) → k < length (waitingIn b) → k < length (sends b further)
+pub sent-at : (b : Book) (further : List Call) → Started b → (k : ℕ) → k < length (waitingIn b) → k < length (sends b further)
     → sentAfter k b further ≡ getD (waitingIn b) k noPayment ∷ []
 sent-at b further r k h n =
     let e : getD (sends b further) k noPayment ≡ getD (waitingIn b) k noPayment =
@@ -115,7 +116,7 @@ sent-at b further r k h n =
     rw (drop-cons (sends b further) k noPayment n, e)
 
 -- all that is promised of the queue
-pub queue : (b : Book) (further : List Call) → Ready b → Queue b further
+pub queue : (b : Book) (further : List Call) → Started b → Queue b further
 queue b further r =
     record {
       accepted = send-accepted b r;

@@ -13,9 +13,8 @@ use Rattle.rules.specs.Limits.{mostBytes}
 use Rattle.rules.specs.Lists.{all, same, joined}
 use Rattle.rules.specs.Lines.{tab, Numbers, andRead, number, numbers, Form, at, fieldsFrom, fields, forms, formed, formedOf, readFields, readLine, tabbed, formOf, numbersOf, writeLine, depositForm, claimForm, transferForm, withdrawForm, sendForm, settleForm, grantForm, signForm, traceForm}
 use Rattle.rules.specs.Transcript.{readInput}
-use Rattle.rules.proofs.Tests.{both}
+use Rattle.rules.proofs.Tests.{both, same-eq}
 use Rattle.rules.proofs.ReadBack.{fitting, read-back}
-use Rattle.lines.proofs.LineLaws.{same-eq}
 use Rattle.promises.specs.Promises.{IsWritten, Reading}
 use Rattle.promises.proofs.Spelled.{number-spelled}
 

@@ -9,10 +9,10 @@ use lib.Dec.{leb, eqb}
 use borrow.Author.Tests.{leb-true, eq-eqb, eqb-true, leb-false}
 use Rattle.promises.specs.Types.{Call, Line}
 use Rattle.rules.specs.Lists.{all, any}
-use Rattle.rules.specs.State.{Book, view}
+use Rattle.rules.specs.State.{Book}
 use Rattle.rules.specs.Replies.{numberOf, told, smaller, smallest}
-use Rattle.rules.specs.Refusals.{refusals, traceRefusals}
-use Rattle.rules.specs.Answer.{frameTest, replyNumber, answer}
+use Rattle.rules.specs.Refusals.{refusals, fulls, traceRefusals}
+use Rattle.rules.specs.Answer.{asked, frameTest, replyNumber, answer}
 use Rattle.rules.specs.Transcript.{answerLine}
 use Rattle.promises.specs.Demand1.{possible, isOneOf}
 use Rattle.promises.specs.Promises.{Numbered, Unchanged, LineAnswered}
@@ -59,8 +59,8 @@ one-passes p n (m ∷ ns) h k = go (eqb n m) refl h (one-passes p n ns)
     go false e i ih = ih i (both (p m) (all p ns) k .1)
 
 -- a call's possible numbers are 0 and those of its table
-own-numbers : (b : Book) (c : Call) → 0 ∷ map (λ (r : ℕ × Bool). r .0) (frameTest b c ∷ refusals (view b) c) ≡ possible c
-unfolding frameTest refusals traceRefusals numberOf possible
+own-numbers : (b : Book) (c : Call) → 0 ∷ map (λ (r : ℕ × Bool). r .0) (asked b c) ≡ possible c
+unfolding frameTest refusals fulls traceRefusals numberOf possible
 own-numbers b (Call.Deposit d) = refl
 own-numbers b (Call.Claim c) = refl
 own-numbers b (Call.Transfer t) = refl
@@ -93,8 +93,8 @@ numbered b c =
       smallest = rw (reply-number b c) (number-smallest b c);
     }
   where
-    number-own : (b : Book) (c : Call) → isOneOf (replyNumber b c) (0 ∷ map (λ (r : ℕ × Bool). r .0) (frameTest b c ∷ refusals (view b) c)) ≡ true
-    number-own b c = unfold replyNumber in smallest-own (frameTest b c ∷ refusals (view b) c)
+    number-own : (b : Book) (c : Call) → isOneOf (replyNumber b c) (0 ∷ map (λ (r : ℕ × Bool). r .0) (asked b c)) ≡ true
+    number-own b c = unfold replyNumber in smallest-own (asked b c)
 
 -- and none is above 21
 number-low : (b : Book) (c : Call) → answer b c .reply .number ≤ 21

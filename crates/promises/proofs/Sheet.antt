@@ -12,7 +12,7 @@ use Rattle.rules.specs.Limits.{isAsset, isAmount, isPayee, assetCount}
 use Rattle.rules.specs.Lists.{all, any, indexOf, sumOf}
 use Rattle.rules.specs.Tables.{edited}
 use Rattle.rules.specs.State.{Outside, State, payments}
-use Rattle.rules.specs.Effects.{effect, debit, balancesAfter, matches, inboxEdit, total, oldest, paymentOf, deposited, withdrawn, sent, settledOne, outsideAfter}
+use Rattle.rules.specs.Effects.{effect, debit, balancesAfter, matches, inboxEdit, oldest, paymentOf, deposited, withdrawn, sent, settledOne, outsideAfter}
 use Rattle.rules.specs.Frame.{paymentInLimits}
 use Rattle.rules.specs.Sheet.{depositedIn, paidIn}
 use Rattle.rules.specs.Facts.{Within, Fit}
@@ -20,14 +20,8 @@ use Rattle.rules.proofs.Tests.{both, within-true}
 use Rattle.promises.proofs.Framed.{Framed}
 use Rattle.promises.proofs.Cells.{length-debit, total-raised}
 use Rattle.lots.proofs.ListLaws.{sum-append}
-use Rattle.promises.proofs.Sums.{sum-one, sum-without, found-in, found-passes, allOf, sum-credit, sum-debit}
-use Rattle.promises.proofs.Lengths.{Lengths}
-
--- lifetime deposits of an asset: unclaimed, in balances, in the outbox, settled
-abbrev pub Balanced : State → ℕ → Type 0
-Balanced s a =
-    total (s .outside .lifetime) a
-    ≡ sumOf (depositedIn a) (s .inbox) + allOf a (s .balances) + sumOf (paidIn a) (payments (s .outside)) + total (s .outside .settled) a
+use Rattle.promises.proofs.Sums.{sum-one, sum-without, found-in, found-passes, sum-credit, sum-debit}
+use Rattle.promises.specs.Started.{Lengths, Balanced}
 
 -- ---- the outbox's oldest payments
 -- the first of some payments, and the rest

@@ -9,10 +9,9 @@ use lib.Dec.{leb, eqb}
 use borrow.Author.Tests.{leb-true, leb-false, le-leb, eq-eqb}
 use Rattle.promises.specs.Types.{Call}
 use Rattle.rules.specs.Lists.{all, any, those}
-use Rattle.rules.specs.State.{Book, view}
+use Rattle.rules.specs.State.{Book}
 use Rattle.rules.specs.Replies.{smaller, smallest}
-use Rattle.rules.specs.Refusals.{refusals}
-use Rattle.rules.specs.Answer.{frameTest, replyNumber}
+use Rattle.rules.specs.Answer.{asked, replyNumber}
 use Rattle.rules.proofs.Accepts.{table-numbered}
 use Rattle.rules.proofs.Digits.{all-imply}
 use Rattle.rules.proofs.Tests.{both, both-of, numbered}
@@ -79,9 +78,9 @@ smallest-holds (r ∷ rs) h = go (r .1) (smallest rs) h (smallest-holds rs)
 -- so the number that a call gets
 pub number-applies : (b : Book) (c : Call) → replyNumber b c ≢ 0 → isOneOf (replyNumber b c) (applying b c) ≡ true
 unfolding replyNumber
-number-applies b c h = smallest-holds (frameTest b c ∷ refusals (view b) c) h
+number-applies b c h = smallest-holds (asked b c) h
 
 -- is the smallest
 pub number-smallest : (b : Book) (c : Call) → all (λ n. leb 1 (replyNumber b c) && leb (replyNumber b c) n) (applying b c) ≡ true
 unfolding replyNumber
-number-smallest b c = smallest-least (frameTest b c ∷ refusals (view b) c) (table-numbered b c)
+number-smallest b c = smallest-least (asked b c) (table-numbered b c)

@@ -1,8 +1,8 @@
--- The unclaimed deposits of a reached book are the accepted deposits that no accepted claim took, in order: deposit numbers are given once, so a claim takes one deposit, and none that comes later.
+-- The unclaimed deposits of a reached book are those that were there and then the accepted ones, less those that an accepted claim took, in order: deposit numbers are given once, so a claim takes one deposit, and none that comes later.
 use Prim.Native.Nat.{ℕ, suc, _+_, _≤_, _<_}
 use mathlib.Core.Path.{_≡_, refl, sym, ap, _∙_}
 use mathlib.Core.Bool.{Bool, true, false, not, _&&_, _||_, cond, false≢true, or-false}
-use mathlib.Core.List.{List, [], _∷_, _++_, append-nil}
+use mathlib.Core.List.{List, [], _∷_, _++_, append-nil, append-assoc}
 use native.Mathlib.Omega.{arith}
 use lib.Dec.{leb, eqb}
 use lib.ListN.{take, drop}
@@ -10,7 +10,7 @@ use borrow.Author.Tests.{eqb-true, ne-eqb, leb-true, le-leb}
 use Rattle.promises.specs.Types.{Deposit, ClaimFields, Call}
 use Rattle.rules.specs.Lists.{all, any, those, indexOf}
 use Rattle.rules.specs.Tables.{edited}
-use Rattle.rules.specs.State.{State, Book, view, emptyState, Empty}
+use Rattle.rules.specs.State.{State, Book, view}
 use Rattle.rules.specs.Effects.{effect, matches, inboxEdit, deposited, withdrawn, sent, settledOne, outsideAfter}
 use Rattle.rules.specs.Frame.{numbersRise}
 use Rattle.rules.specs.Runs.{run, depositing, deposits}
@@ -20,10 +20,10 @@ use Rattle.rules.proofs.Digits.{all-append, all-imply}
 use Rattle.rules.proofs.Accepts.{fit}
 use Rattle.lots.proofs.ListLaws.{those-append, any-append}
 use Rattle.promises.specs.Demand2.{claiming, claims, isClaimed}
-use Rattle.promises.proofs.Base.{view-empty}
 use Rattle.promises.proofs.Framed.{framed}
 use Rattle.promises.proofs.InboxFrame.{rise-parts}
-use Rattle.promises.proofs.Reached.{Ready, ready-empty, ready-keeps}
+use Rattle.promises.specs.Started.{Started}
+use Rattle.promises.proofs.Reached.{started-keeps}
 
 -- ---- a claim and a deposit
 -- a claim takes a deposit with its own number
@@ -105,63 +105,72 @@ one-more ks c d = rw (any-append (λ k. matches k d) ks (c ∷ []), or-false (ma
     go true u = refl
     go false u = refl
 
--- ---- the invariant: the inbox is the deposits so far that none of the claims so far took, and no claim has a number above the last
-record Left (ds : List Deposit) (ks : List ClaimFields) (s : State) : Type 0 where
-  inbox : s .inbox ≡ those (λ d. not (isClaimed ks d)) ds
+-- ---- the invariant: the inbox is what was there and the deposits so far, less what the claims so far took, and no claim has a number above the last
+record Left (first ds : List Deposit) (ks : List ClaimFields) (s : State) : Type 0 where
+  inbox : s .inbox ≡ those (λ d. not (isClaimed ks d)) (first ++ ds)
   low : all (λ c. leb (c .number .0) (s .outside .last .0)) ks ≡ true
 
--- a call that neither deposits nor claims
-carried : (ds : List Deposit) (ks : List ClaimFields) (s t : State) → t .inbox ≡ s .inbox → t .outside .last ≡ s .outside .last → Left ds ks s → Left (ds ++ []) (ks ++ []) t
-carried ds ks s t i l h = rw (append-nil ds, append-nil ks) record { inbox = i ∙ h .inbox; low = rw l (h .low) }
+module _ (first : List Deposit) where
+  -- a call that neither deposits nor claims
+  carried : (ds : List Deposit) (ks : List ClaimFields) (s t : State) → t .inbox ≡ s .inbox → t .outside .last ≡ s .outside .last → Left first ds ks s → Left first (ds ++ []) (ks ++ []) t
+  carried ds ks s t i l h = rw (append-nil ds, append-nil ks) record { inbox = i ∙ h .inbox; low = rw l (h .low) }
 
--- a deposit, with a number that no claim has
-left-deposit : (ds : List Deposit) (ks : List ClaimFields) (s : State) (d : Deposit) → d .number .0 ≡ s .outside .last .0 + 1 → Left ds ks s
-    → Left (ds ++ (d ∷ [])) (ks ++ []) (effect (Call.Deposit d) s)
-unfolding effect inboxEdit edited outsideAfter deposited
-left-deposit ds ks s d n h =
-    rw (append-nil ks)
-    record {
-      inbox = rw (h .inbox, those-append (λ e. not (isClaimed ks e)) ds (d ∷ [])) (unfold those in rw (fresh ks (s .outside .last .0) d (h .low) (omega arith)));
-      low =
-          all-imply (λ c. leb (c .number .0) (s .outside .last .0)) (λ c. leb (c .number .0) (d .number .0))
-          (λ c e. le-leb (c .number .0) (d .number .0) (omega (arith, leb-true (c .number .0) (s .outside .last .0) e))) ks (h .low);
-    }
+  -- a deposit, with a number that no claim has
+  left-deposit : (ds : List Deposit) (ks : List ClaimFields) (s : State) (d : Deposit) → d .number .0 ≡ s .outside .last .0 + 1 → Left first ds ks s
+      → Left first (ds ++ (d ∷ [])) (ks ++ []) (effect (Call.Deposit d) s)
+  unfolding effect inboxEdit edited outsideAfter deposited
+  left-deposit ds ks s d n h =
+      rw (append-nil ks)
+      record {
+        inbox =
+            rw (h .inbox, ← append-assoc first ds (d ∷ []), those-append (λ e. not (isClaimed ks e)) (first ++ ds) (d ∷ []))
+            (unfold those in rw (fresh ks (s .outside .last .0) d (h .low) (omega arith)));
+        low =
+            all-imply (λ c. leb (c .number .0) (s .outside .last .0)) (λ c. leb (c .number .0) (d .number .0))
+            (λ c e. le-leb (c .number .0) (d .number .0) (omega (arith, leb-true (c .number .0) (s .outside .last .0) e))) ks (h .low);
+      }
 
--- a claim, of a row of the inbox
-left-claim : (ds : List Deposit) (ks : List ClaimFields) (s : State) (c : ClaimFields) → numbersRise 0 (s .outside .last .0) (s .inbox) ≡ true → any (matches c) (s .inbox) ≡ true → Left ds ks s
-    → Left (ds ++ []) (ks ++ (c ∷ [])) (effect (Call.Claim c) s)
-unfolding effect inboxEdit edited outsideAfter
-left-claim ds ks s c rise found h =
-    rw (append-nil ds)
-    record {
-      inbox =
-          taken-out c 0 (s .outside .last .0) (s .inbox) rise
-          ∙ ap (those (isLeft c)) (h .inbox)
-          ∙ sym (those-twice (λ d. not (isClaimed (ks ++ (c ∷ [])) d)) (λ d. not (isClaimed ks d)) (isLeft c) (one-more ks c) ds);
-      low = rw (all-append (λ k. leb (k .number .0) (s .outside .last .0)) ks (c ∷ []), h .low) (unfold all in rw (le-leb (c .number .0) (s .outside .last .0) (found-low c 0 (s .outside .last .0) (s .inbox) rise found)));
-    }
+  -- a claim, of a row of the inbox
+  left-claim : (ds : List Deposit) (ks : List ClaimFields) (s : State) (c : ClaimFields) → numbersRise 0 (s .outside .last .0) (s .inbox) ≡ true → any (matches c) (s .inbox) ≡ true → Left first ds ks s
+      → Left first (ds ++ []) (ks ++ (c ∷ [])) (effect (Call.Claim c) s)
+  unfolding effect inboxEdit edited outsideAfter
+  left-claim ds ks s c rise found h =
+      rw (append-nil ds)
+      record {
+        inbox =
+            taken-out c 0 (s .outside .last .0) (s .inbox) rise
+            ∙ ap (those (isLeft c)) (h .inbox)
+            ∙ sym (those-twice (λ d. not (isClaimed (ks ++ (c ∷ [])) d)) (λ d. not (isClaimed ks d)) (isLeft c) (one-more ks c) (first ++ ds));
+        low = rw (all-append (λ k. leb (k .number .0) (s .outside .last .0)) ks (c ∷ []), h .low) (unfold all in rw (le-leb (c .number .0) (s .outside .last .0) (found-low c 0 (s .outside .last .0) (s .inbox) rise found)));
+      }
 
--- every accepted call keeps it
-left-kept : (ds : List Deposit) (ks : List ClaimFields) (b : Book) (c : Call) → Accepted b c → Ready b → Left ds ks (view b)
-    → Left (ds ++ depositing b c) (ks ++ claiming b c) (effect c (view b))
-unfolding depositing claiming effect inboxEdit edited outsideAfter withdrawn sent settledOne
-left-kept ds ks b (Call.Deposit d) a r h =
-    let k : DepositFit (view b) d = fit b (Call.Deposit d) a in
-    left-deposit ds ks (view b) d (k .next) h
-left-kept ds ks b (Call.Claim c) a r h =
-    let k : ClaimFit (view b) c = fit b (Call.Claim c) a in
-    left-claim ds ks (view b) c (framed b (r .frame) .numbers) (k .found) h
-left-kept ds ks b (Call.Transfer t) a r h = carried ds ks (view b) (effect (Call.Transfer t) (view b)) refl refl h
-left-kept ds ks b (Call.Withdraw w) a r h = carried ds ks (view b) (effect (Call.Withdraw w) (view b)) refl refl h
-left-kept ds ks b Call.Send a r h = carried ds ks (view b) (effect Call.Send (view b)) refl refl h
-left-kept ds ks b (Call.Settle n) a r h = carried ds ks (view b) (effect (Call.Settle n) (view b)) refl refl h
-left-kept ds ks b (Call.Grant g) a r h = carried ds ks (view b) (effect (Call.Grant g) (view b)) refl refl h
-left-kept ds ks b (Call.Sign g) a r h = carried ds ks (view b) (effect (Call.Sign g) (view b)) refl refl h
-left-kept ds ks b (Call.Trace n) a r h = carried ds ks (view b) (effect (Call.Trace n) (view b)) refl refl h
+  -- every accepted call keeps it
+  left-kept : (ds : List Deposit) (ks : List ClaimFields) (b : Book) (c : Call) → Accepted b c → Started b → Left first ds ks (view b)
+      → Left first (ds ++ depositing b c) (ks ++ claiming b c) (effect c (view b))
+  unfolding depositing claiming effect inboxEdit edited outsideAfter withdrawn sent settledOne
+  left-kept ds ks b (Call.Deposit d) a r h =
+      let k : DepositFit (view b) d = fit b (Call.Deposit d) a in
+      left-deposit ds ks (view b) d (k .next) h
+  left-kept ds ks b (Call.Claim c) a r h =
+      let k : ClaimFit (view b) c = fit b (Call.Claim c) a in
+      left-claim ds ks (view b) c (framed b (r .frame) .numbers) (k .found) h
+  left-kept ds ks b (Call.Transfer t) a r h = carried ds ks (view b) (effect (Call.Transfer t) (view b)) refl refl h
+  left-kept ds ks b (Call.Withdraw w) a r h = carried ds ks (view b) (effect (Call.Withdraw w) (view b)) refl refl h
+  left-kept ds ks b Call.Send a r h = carried ds ks (view b) (effect Call.Send (view b)) refl refl h
+  left-kept ds ks b (Call.Settle n) a r h = carried ds ks (view b) (effect (Call.Settle n) (view b)) refl refl h
+  left-kept ds ks b (Call.Grant g) a r h = carried ds ks (view b) (effect (Call.Grant g) (view b)) refl refl h
+  left-kept ds ks b (Call.Sign g) a r h = carried ds ks (view b) (effect (Call.Sign g) (view b)) refl refl h
+  left-kept ds ks b (Call.Trace n) a r h = carried ds ks (view b) (effect (Call.Trace n) (view b)) refl refl h
 
--- after any calls from an empty book
-pub unclaimed-left : (b : Book) (cs : List Call) → Empty b → view (run b cs) .inbox ≡ those (λ d. not (isClaimed (claims b cs) d)) (deposits b cs)
-unclaimed-left b cs e = ready-keeps depositing claiming Left left-kept b cs (ready-empty b e) (rw (view-empty b e) start) .inbox
+-- no claim leaves all
+unclaimed-yet : (ds : List Deposit) → those (λ d. not (isClaimed [] d)) ds ≡ ds
+unfolding those any
+unclaimed-yet [] = refl
+unclaimed-yet (d ∷ ds) = ap (λ (r : List Deposit). d ∷ r) (unclaimed-yet ds)
+
+-- after any calls
+pub unclaimed-left : (b : Book) (cs : List Call) → Started b → view (run b cs) .inbox ≡ those (λ d. not (isClaimed (claims b cs) d)) (view b .inbox ++ deposits b cs)
+unclaimed-left b cs r = started-keeps depositing claiming (Left (view b .inbox)) (left-kept (view b .inbox)) b cs r start .inbox
   where
-    start : Left [] [] emptyState
-    start = unfold emptyState those all in record { inbox = refl; low = refl }
+    start : Left (view b .inbox) [] [] (view b)
+    start = record { inbox = sym (unclaimed-yet (view b .inbox ++ []) ∙ append-nil (view b .inbox)); low = unfold all in refl }

@@ -6,9 +6,8 @@ use lib.Dec.{eqb}
 use lib.ListN.{length}
 use Rattle.promises.specs.Types.{Call}
 use Rattle.rules.specs.Lists.{any, those}
-use Rattle.rules.specs.State.{Book, view, emptyBook}
-use Rattle.rules.specs.Refusals.{refusals}
-use Rattle.rules.specs.Answer.{Outcome, frameTest}
+use Rattle.rules.specs.State.{Book, emptyBook}
+use Rattle.rules.specs.Answer.{asked, Outcome}
 use Rattle.rules.specs.Lines.{lineFeed}
 use Rattle.rules.specs.Transcript.{InputLine, inputLines, readInput, answerLine, replyText}
 
@@ -31,7 +30,7 @@ isOneOf n ns = any (eqb n) ns
 
 -- the refusals that apply to a call on a book, by their numbers
 abbrev pub applying : Book → Call → List ℕ
-applying b c = map (λ (r : ℕ × Bool). r .0) (those (λ (r : ℕ × Bool). r .1) (frameTest b c ∷ refusals (view b) c))
+applying b c = map (λ (r : ℕ × Bool). r .0) (those (λ (r : ℕ × Bool). r .1) (asked b c))
 
 -- ---- lines
 -- what each of these lines gets, in order, each from the book that the lines before it left

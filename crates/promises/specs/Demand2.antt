@@ -6,8 +6,8 @@ use lib.Dec.{eqb}
 use lib.ListN.{take, drop, replicate}
 use Rattle.promises.specs.Types.{Nonce, Deposit, Payment, Record, Lot, ClaimFields, Call}
 use Rattle.rules.specs.Lists.{any}
-use Rattle.rules.specs.State.{Book, view, historyOf}
-use Rattle.rules.specs.Effects.{matches, paymentOf}
+use Rattle.rules.specs.State.{Book, view}
+use Rattle.rules.specs.Effects.{holder, matches, paymentOf}
 use Rattle.rules.specs.History.{Kind, kindOf, byFirst, bySecond}
 use Rattle.rules.specs.Answer.{answer}
 use Rattle.rules.specs.Runs.{run, gather, sends}
@@ -26,9 +26,9 @@ unfoldable pub heldAfter : ℕ → ℕ → List Record → ℕ
 heldAfter before d [] = before
 heldAfter before d (r ∷ rs) = heldAfter (heldAs (kindOf r) d r before) d rs
 
--- at first member 1 holds every domain
-abbrev pub holderBy : ℕ → List Record → ℕ
-holderBy d h = heldAfter 1 d h
+-- from the holders at first on
+abbrev pub holderBy : List ℕ → ℕ → List Record → ℕ
+holderBy first d h = heldAfter (holder first d) d h
 
 -- ---- numbers and nonces
 -- a payment's nonce
@@ -106,7 +106,7 @@ made b cs = sends b cs ++ waitingIn (run b cs)
 
 -- the record of payment n: the history's withdrawal with n withdrawals before it
 abbrev pub recordOf : Book → List Call → Nonce → Record
-recordOf b cs n = nthWithdrawal (n .0) (historyOf (run b cs))
+recordOf b cs n = nthWithdrawal (n .0) (view (run b cs) .history)
 
 -- the payment that a withdrawal's record stands for, with this nonce
 abbrev pub paymentBy : Record → Nonce → Payment

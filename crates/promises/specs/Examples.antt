@@ -11,6 +11,7 @@ use Rattle.rules.specs.Runs.{run}
 use Rattle.rules.specs.Sheet.{upFrom}
 use Rattle.rules.specs.Transcript.{InputLine}
 use Rattle.rules.specs.Cases.{deposit, claim, transfer, withdraw, settle, grant, sign, trace, with300}
+use Rattle.rules.specs.FrameCases.{unclaimedAs, recordsAs}
 use Rattle.promises.specs.Demand3Examples.{recorded}
 
 -- ======== demand 1
@@ -18,19 +19,7 @@ use Rattle.promises.specs.Demand3Examples.{recorded}
 abbrev pub counting : ℕ → ℕ → Book
 counting unclaimed records =
     record {
-      desk =
-          record {
-            balances = emptyBook .desk .balances;
-            holders = emptyBook .desk .holders;
-            lifetime = emptyBook .desk .lifetime;
-            settled = emptyBook .desk .settled;
-            last = emptyBook .desk .last;
-            next = emptyBook .desk .next;
-            unclaimed = unclaimed;
-            payments = emptyBook .desk .payments;
-            inflight = emptyBook .desk .inflight;
-            records = records;
-          };
+      desk = unclaimedAs unclaimed (recordsAs records (emptyBook .desk));
       inbox = emptyBook .inbox;
       outbox = emptyBook .outbox;
       history = emptyBook .history;

@@ -1,4 +1,4 @@
--- What is promised, in the order of the demands, from top to bottom. Each promise is said in words and then exactly; the words that it cites are those of the rules (crate rules; what an accepted call rests on: its specs/Facts), of traces (crate lots), of the book runner (crates steps and runner), and of Demand1, Demand2 and Carried beside this page.
+-- What is promised, in the order of the demands, from top to bottom. Each promise is said in words and then exactly; the words that it cites are those of the rules (crate rules; what an accepted call rests on: its specs/Facts), of traces (crate lots), of the book runner (crates steps and runner), and of Demand1, Demand2, Started and Carried beside this page.
 use Prim.Native.Nat.{ℕ, _+_, _≤_, _<_}
 use mathlib.Core.Path.{_≡_}
 use mathlib.Core.Logic.{_≢_, _↔_}
@@ -7,11 +7,11 @@ use mathlib.Core.List.{List, [], _∷_, _++_, map}
 use lib.Dec.{leb, eqb}
 use lib.ListN.{length, getD, take, drop, replicate}
 use Rattle.promises.specs.Types.{Nonce, Lot, Call, Line, Answer}
-use Rattle.rules.specs.Facts.{Accepted, Within, Fit}
-use Rattle.rules.specs.Limits.{memberCount, assetCount, domainCount, highestField, mostLines, mostBytes}
+use Rattle.rules.specs.Facts.{Accepted, Within, Fit, Room}
+use Rattle.rules.specs.Limits.{memberCount, assetCount, highestField, mostLines, mostBytes}
 use Rattle.rules.specs.Lists.{all, any, joined, those}
 use Rattle.rules.specs.Tables.{editedTable, depositShape, paymentShape, recordShape}
-use Rattle.rules.specs.State.{Book, Empty, view, deskOf, historyOf, emptyBook, inboxOf}
+use Rattle.rules.specs.State.{Book, Empty, view, deskOf, firstHolders, emptyBook}
 use Rattle.rules.specs.Replies.{told, plain, Reply}
 use Rattle.rules.specs.Effects.{effect, edits, changesNothing, balance, holder, total, oldest, recordsOf}
 use Rattle.rules.specs.Frame.{inFrame}
@@ -29,6 +29,7 @@ use Rattle.runner.specs.Feeding.{Ready}
 use Rattle.runner.specs.Kept.{Kept, bookIn, machineIn, onPage, Closed}
 use Rattle.promises.specs.Demand1.{possible, isOneOf, applying, outcomes, replyTexts, doneCount, otherCount, answered, lineFeeds, asRead, isEmpty}
 use Rattle.promises.specs.Demand2.{holderBy, nonceOf, queued, sendCalls, waitingIn, noPayment, claims, isClaimed, claimsLot, made, recordOf, paymentBy, traced, coinsIn}
+use Rattle.promises.specs.Started.{Started, Since}
 use Rattle.promises.specs.Carried.{callsOf, callsIn, ended, after, Beginning, Chain, Steps}
 
 -- ======== Demand 1. "Every call on every book, and every input line up to line 100,000, ends with an answer from the fixed table. The ledger checks for itself. A refused call changes no record, and an absent number is refused, never read as nought."
@@ -132,32 +133,32 @@ pub record Demand1 : Type 0 where
 -- the book is in frame, its history too, so that no call, no trace and no question is answered 2 BadBook
 pub record InFrame (b : Book) : Type 0 where
   pub book : inFrame b ≡ true
-  pub history : historyInFrame (historyOf b) ≡ true
+  pub history : historyInFrame (view b .history) ≡ true
   pub noBadCall : (c : Call) → answer b c .reply .number ≢ 2
   pub noBadTrace : (work out : List Lot) (n : Nonce) → traceAnswer b work out n .reply .number ≢ 2
   pub noBadQuestion : (m a : ℕ) → provenanceAnswer b m a .number ≢ 2
 
--- every balance is the provenance, and the library question gives it; every holder is the one by the grants; the next nonce is the number of withdrawals
+-- every balance is the provenance, and the library question gives it; every holder is the one by the grants, from member 1 on, who holds every domain at first; the next nonce is the number of withdrawals
 pub record ByHistory (b : Book) : Type 0 where
-  pub balances : (m a : ℕ) → balance (b .desk .balances) m a ≡ provenanceOf m a (historyOf b)
+  pub balances : (m a : ℕ) → balance (view b .balances) m a ≡ provenanceOf m a (view b .history)
   pub asked : (m a : ℕ) → Within 1 memberCount m → Within 1 assetCount a
-      → provenanceAnswer b m a ≡ record { number = 0; values = balance (b .desk .balances) m a ∷ [] }
-  pub holders : (d : ℕ) → Within 1 domainCount d → holder (b .desk .holders) d ≡ holderBy d (historyOf b)
-  pub next : b .desk .next .0 ≡ withdrawals (historyOf b)
+      → provenanceAnswer b m a ≡ record { number = 0; values = balance (view b .balances) m a ∷ [] }
+  pub holders : (d : ℕ) → holder (view b .holders) d ≡ holderBy firstHolders d (view b .history)
+  pub next : view b .outside .next .0 ≡ withdrawals (view b .history)
 
 -- the balance sheet of an asset; the desk's two totals are the sums over the accepted calls; what has settled is never more than what was deposited, and the chain total is what the book still holds
 pub record Sheet (a : ℕ) (b : Book) (cs : List Call) : Type 0 where
   pub sheet : BalanceSheet a b cs
-  pub lifetime : total (run b cs .desk .lifetime) a ≡ acceptedDeposits a b cs
-  pub settled : total (run b cs .desk .settled) a ≡ settledSum a b cs
+  pub lifetime : total (view (run b cs) .outside .lifetime) a ≡ acceptedDeposits a b cs
+  pub settled : total (view (run b cs) .outside .settled) a ≡ settledSum a b cs
   pub less : settledSum a b cs ≤ acceptedDeposits a b cs
   pub chain : chainTotal a b cs ≡ unclaimedSum a (run b cs) + balancesSum a (run b cs) + outboxSum a (run b cs)
 
 -- deposit numbers are 1, 2, 3, ..; the nonces of the payments made, sent and waiting, are 0, 1, 2, .. up to the next nonce; and the payments sent are those that settled, then those in flight
 pub record InOrder (b : Book) (cs : List Call) : Type 0 where
   pub numbers : map (λ d. d .number .0) (deposits b cs) ≡ upFrom 1 (length (deposits b cs))
-  pub last : run b cs .desk .last .0 ≡ length (deposits b cs)
-  pub nonces : map nonceOf (made b cs) ≡ upFrom 0 (run b cs .desk .next .0)
+  pub last : view (run b cs) .outside .last .0 ≡ length (deposits b cs)
+  pub nonces : map nonceOf (made b cs) ≡ upFrom 0 (view (run b cs) .outside .next .0)
   pub sentNonces : map nonceOf (sends b cs) ≡ upFrom 0 (length (sends b cs))
   pub settled : sends b cs ≡ settlements b cs ++ view (run b cs) .outside .inflight
 
@@ -188,9 +189,9 @@ pub record PaymentTraced (b : Book) (cs : List Call) (n : Nonce) : Type 0 where
   pub sourced : all (λ l. any (claimsLot (deposits b cs) l) (claims b cs)) (traced b cs n) ≡ true
   -- coin by coin they are the oldest in the payer's line, as the records before the payment left it
   pub oldestFirst : coins (traced b cs n)
-      ≡ take (recordOf b cs n .amount) (coinsIn (beforePayment (n .0) (historyOf (run b cs))) (recordOf b cs n .first) (recordOf b cs n .asset))
+      ≡ take (recordOf b cs n .amount) (coinsIn (beforePayment (n .0) (view (run b cs) .history)) (recordOf b cs n .first) (recordOf b cs n .asset))
   -- lent two tables, "each with at least as many rows as the history has records", it gives the same reply; every row of the work table ends as zeros, and the pieces fill the first rows of theirs, the rest as it was
-  pub lent : (work out : List Lot) → length (historyOf (run b cs)) ≤ length work → length (historyOf (run b cs)) ≤ length out
+  pub lent : (work out : List Lot) → length (view (run b cs) .history) ≤ length work → length (view (run b cs) .history) ≤ length out
       → traceAnswer (run b cs) work out n
       ≡ record {
         reply = answer (run b cs) (Call.Trace n) .reply;
@@ -202,13 +203,13 @@ pub record PaymentTraced (b : Book) (cs : List Call) (n : Nonce) : Type 0 where
 pub record Demand2 (b : Book) (cs : List Call) : Type 0 where
   -- the book stays in frame
   pub frame : InFrame (run b cs)
-  -- every answer is what the rules give: a call is accepted exactly if its facts hold (Facts): fields in their limits, the next number, enough, the holder, room; and it leaves its effect
-  pub accepting : (c : Call) → Accepted (run b cs) c ↔ Fit (view (run b cs)) c
+  -- every answer is what the rules give: a call is accepted exactly if its facts hold (Facts): fields in their limits, the next number, enough, the holder; and the tables have room; and it leaves its effect
+  pub accepting : (c : Call) → Accepted (run b cs) c ↔ Fit (view (run b cs)) c × Room (view (run b cs)) c
   pub leaves : (c : Call) → Accepted (run b cs) c → Leaves (run b cs) c
   -- every record is what the rules give: the history is the records of the accepted calls, in order
-  pub records : historyOf (run b cs) ≡ joined recordsOf (accepted b cs)
+  pub records : view (run b cs) .history ≡ joined recordsOf (accepted b cs)
   -- the inbox is the accepted deposits that no accepted claim took, in order
-  pub inbox : inboxOf (run b cs) ≡ those (λ d. not (isClaimed (claims b cs) d)) (deposits b cs)
+  pub inbox : view (run b cs) .inbox ≡ those (λ d. not (isClaimed (claims b cs) d)) (deposits b cs)
   -- each kept balance equals the provenance worked out from the history alone, and so for holders and the next nonce
   pub byHistory : ByHistory (run b cs)
   -- the balance sheet holds for each asset
@@ -218,8 +219,8 @@ pub record Demand2 (b : Book) (cs : List Call) : Type 0 where
   -- whatever calls come next, the queue is served in its order
   pub queue : (further : List Call) → Queue (run b cs) further
   -- there are as many payments as withdrawals in the history, and every one has its trace
-  pub payments : length (made b cs) ≡ withdrawals (historyOf (run b cs))
-  pub traces : (n : Nonce) → n .0 < run b cs .desk .next .0 → PaymentTraced b cs n
+  pub payments : length (made b cs) ≡ withdrawals (view (run b cs) .history)
+  pub traces : (n : Nonce) → n .0 < view (run b cs) .outside .next .0 → PaymentTraced b cs n
 
 -- ======== Demand 3. "Take two runs from an empty book. If their accepted deposits, withdrawals, sends and settlements agree in order, the withdrawing member aside, the outside world sees the same payments, nonces, settlements and chain totals. If the accepted calls that name one member, with deposits for that member, agree in order, that member's balances, unclaimed deposits, domains and statement agree, and the member's next claim, transfer, grant, withdrawal or sign request gets the same answer, provided that neither book's history or outbox is full."
 -- All of it is said over `accepted`, `run` and `answer`, the definitions of demand 2, and over nothing weaker: a ledger that refuses all calls, or that replies rightly and stores nothing, would have such a property too, but its calls are not accepted, or its books not left, as `answer` says, so it does not meet demand 2.
@@ -328,5 +329,8 @@ pub record TheCode : Type 0 where
 pub record Promises : Type 0 where
   pub demand1 : Demand1
   pub demand2 : (b : Book) (cs : List Call) → Empty b → Demand2 b cs
+  -- and from any book on that calls can start from: an empty one is such a book, and so is every book that calls led to
+  pub starts : (b : Book) → Empty b → Started b
+  pub since : (b : Book) (cs : List Call) → Started b → Since b cs
   pub demand3 : Demand3
   pub theCode : TheCode

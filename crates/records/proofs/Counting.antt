@@ -10,20 +10,19 @@ use borrow.Author.Tests.{leb-true, le-leb, eqb-true}
 use Rattle.rules.specs.declared.rows.Record.{Record}
 use Rattle.rules.specs.declared.answers.Refusal.{Refusal}
 use Rattle.rules.specs.declared.answers.Origin.{Origin}
-use Rattle.rules.specs.Limits.{ceiling, historyRows, isMember, isAsset}
+use Rattle.rules.specs.Limits.{ceiling, isMember, isAsset}
 use Rattle.rules.specs.Lists.{all}
 use Rattle.rules.specs.Tables.{rowsOf, recordShape}
-use Rattle.rules.specs.State.{Book, historyOf}
+use Rattle.rules.specs.State.{Book, firstHolders, historyOf}
 use Rattle.rules.specs.Effects.{balance}
 use Rattle.rules.specs.Frame.{inFrame}
-use Rattle.rules.specs.History.{Kind, kindOf, byFirst, bySecond, countedAs, counted, provenance, provenanceOf, Standing as Replayed, emptyStanding, standingAfter, fits, replays, historyInFrame}
+use Rattle.rules.specs.History.{Kind, kindOf, byFirst, bySecond, countedAs, counted, provenance, provenanceOf, Standing as Replayed, standingFrom, standingAfter, fits, replays, historyInFrame}
 use Rattle.rules.specs.Replies.{numberOf, toldOrigin, smallest}
 use Rattle.rules.specs.Answer.{provenanceNumber, provenanceAnswer}
 use Rattle.rules.proofs.Laying.{length-rows, rows-split}
 use Rattle.rules.proofs.Tests.{both, all-at}
-use Rattle.tables.specs.Rows.{lieWithin, rowAt}
+use Rattle.tables.specs.Rows.{rowAt}
 use Rattle.rules.proofs.Books.{Framed, framed}
-use Rattle.desk.proofs.Books.{Framed, framed}
 use Rattle.lots.specs.Traces.{standingThrough}
 use Rattle.lots.proofs.Fits.{transfer-fits, withdrawal-fits}
 use Rattle.lots.proofs.ProvenanceLaws.{provenance-last}
@@ -97,26 +96,26 @@ module _ (t : List ℕ) (n : ℕ) (can : CanWork t n) (some : 1 ≤ n) where
   last : Record
   last = rowAt recordShape (n - 1) t
 
-  parts : (historyInFrame before ≡ true) × (fits (standingThrough emptyStanding before) last ≡ true)
+  parts : (historyInFrame before ≡ true) × (fits (standingThrough (standingFrom firstHolders) before) last ≡ true)
   unfolding before last
-  parts = replays-last before last emptyStanding (sym (ap (replays emptyStanding) (rows-fewer n t some)) ∙ can .framed)
+  parts = replays-last before last (standingFrom firstHolders) (sym (ap (replays (standingFrom firstHolders)) (rows-fewer n t some)) ∙ can .framed)
 
   pub can-go-back : CanWork t (n - 1)
   unfolding before
   can-go-back = record { few = omega arith; framed = parts .0 }
 
   -- what the first member has at this point is the sum so far
-  covers : (m a : ℕ) → last .amount ≤ balance (standingThrough emptyStanding before .balances) (last .first) (last .asset) → byFirst m a last ≡ true → last .amount ≤ provenanceOf m a before
+  covers : (m a : ℕ) → last .amount ≤ balance (standingThrough (standingFrom firstHolders) before .balances) (last .first) (last .asset) → byFirst m a last ≡ true → last .amount ≤ provenanceOf m a before
   covers m a h e =
       let (p, q) = both (eqb (last .first) m) (eqb (last .asset) a) e in
-      rw (← eqb-true (last .first) m p, ← eqb-true (last .asset) a q, ← balance-provenance before (parts .0) (last .first) (last .asset)) h
+      rw (← eqb-true (last .first) m p, ← eqb-true (last .asset) a q, ← balance-provenance firstHolders before (parts .0) (last .first) (last .asset)) h
 
   pub can-count : (m a : ℕ) → CanCount (rowAt recordShape (n - 1) t) m a (provenanceOf m a (rowsOf recordShape (n - 1) t))
   unfolding before last
   can-count m a =
-      let s = standingThrough emptyStanding before in
+      let s = standingThrough (standingFrom firstHolders) before in
       let few : length before ≡ n - 1 = length-rows recordShape (n - 1) t in
-      let low : provenanceOf m a before ≤ length before * ceiling = provenance-low m a (length before) before (amounts-low emptyStanding before (parts .0)) in
+      let low : provenanceOf m a before ≤ length before * ceiling = provenance-low m a (length before) before (amounts-low (standingFrom firstHolders) before (parts .0)) in
       record {
         room = omega (arith, low, few, can .few, amount-low (kindOf last) s last (parts .1));
         sent = λ k e. covers m a (transfer-fits s last (rw (is-transfer last k) at (parts .1)) .pays .covered) e;
@@ -134,14 +133,17 @@ nothing-left m a n t e = rw e
 
 -- ---- the whole frame
 -- in a book in frame the history's count and table are as they must be
-pub frame-whole : (b : Book) → inFrame b && historyFrame (b .history) (b .desk .records) ≡ inFrame b && historyInFrame (historyOf b)
+pub history-whole : (b : Book) → inFrame b ≡ true → historyFrame (b .history) (b .desk .records) ≡ historyInFrame (historyOf b)
 unfolding historyFrame
+history-whole b e =
+    let f : Framed b = framed b e in
+    rw (le-leb (b .desk .records) 1024 (f .records), le-leb (b .desk .records * 5) (length (b .history)) (omega arith))
+
+pub frame-whole : (b : Book) → inFrame b && historyFrame (b .history) (b .desk .records) ≡ inFrame b && historyInFrame (historyOf b)
 frame-whole b = go (inFrame b) refl
   where
-    go : (t : Bool) → inFrame b ≡ t → t && (leb (b .desk .records) historyRows && (lieWithin 5 (b .desk .records) (b .history) && historyInFrame (historyOf b))) ≡ t && historyInFrame (historyOf b)
-    go true e =
-        let f : Framed b = framed b e in
-        rw (le-leb (b .desk .records) 1024 (f .records), le-leb (b .desk .records * 5) (length (b .history)) (omega arith))
+    go : (t : Bool) → inFrame b ≡ t → t && historyFrame (b .history) (b .desk .records) ≡ t && historyInFrame (historyOf b)
+    go true e = history-whole b e
     go false e = refl
 
 pub can-work : (b : Book) → inFrame b && historyInFrame (historyOf b) ≡ true → CanWork (b .history) (b .desk .records)

@@ -12,8 +12,8 @@ use Rattle.rules.specs.Limits.{ceiling, isMember, isAsset, isAmount, isDomain}
 use Rattle.rules.specs.Lists.{all}
 use Rattle.rules.specs.Tables.{rowsOf, recordShape}
 use Rattle.rules.specs.Effects.{cell, balance, credit, debit}
-use Rattle.rules.specs.History.{Kind, kindOf, Standing as Replayed, emptyStanding, standingAs, standingAfter, fitsAs, fits, replays}
-use Rattle.rules.specs.State.{emptyState}
+use Rattle.rules.specs.History.{Kind, kindOf, Standing as Replayed, standingFrom, standingAs, standingAfter, fitsAs, fits, replays}
+use Rattle.rules.specs.State.{firstHolders, emptyState}
 use Rattle.rules.specs.Facts.{Within}
 use Rattle.rules.proofs.Tests.{both, both-of, within-true, true-within, all-at, all-set}
 use Rattle.rules.proofs.Digits.{all-imply}
@@ -95,8 +95,8 @@ low-next i s r f h =
     let e : (i + 1) * ceiling ≡ i * ceiling + ceiling = omega arith in
     rw e (low-after (kindOf r) (i * ceiling) s r f h)
 
-pub low-first : allUpTo 0 (emptyStanding .balances) ≡ true
-unfolding emptyStanding emptyState all
+pub low-first : allUpTo 0 (standingFrom firstHolders .balances) ≡ true
+unfolding standingFrom emptyState all
 low-first = refl
 
 pub can-follow : (i : ℕ) (bs hs : List ℕ) (r : Record) → i < 1024 → fits (standing bs hs) r ≡ true → allUpTo (i * ceiling) bs ≡ true → CanFollow bs hs r
@@ -121,9 +121,9 @@ module _ (t : List ℕ) (n : ℕ) where
   unfolding historyFrame
   history-size h l = rw (le-leb n 1024 h, lt-leb (n * 5) (length t) l)
 
-  pub history-none : n ≤ 1024 → n * 5 ≤ length t → (s : Replayed) → s ≡ emptyStanding → HistoryFrom s 0
+  pub history-none : n ≤ 1024 → n * 5 ≤ length t → (s : Replayed) → s ≡ standingFrom firstHolders → HistoryFrom s 0
   unfolding historyFrame
-  history-none h l s e = rw (le-leb n 1024 h, le-leb (n * 5) (length t) l, rest-all recordShape n t, e) (replays-pass emptyStanding (rowsOf recordShape n t))
+  history-none h l s e = rw (le-leb n 1024 h, le-leb (n * 5) (length t) l, rest-all recordShape n t, e) (replays-pass (standingFrom firstHolders) (rowsOf recordShape n t))
 
   pub history-fails : (s : Replayed) (i : ℕ) → i < n → HistoryFrom s i → fits s (rowAt recordShape i t) ≡ false → false ≡ historyFrame t n
   history-fails s i h f e = sym (f ∙ passes-fails recordShape fits standingAfter n s i t h e)

@@ -4,8 +4,8 @@ pub mod frame;
 pub mod origin;
 
 use crate::frame::history_in_frame;
-use frames::Counts;
-use frames::in_frame;
+use frames::framed;
+use rules::desk::Desk;
 use rules::rows::Record;
 ghost use mathlib.Core.Path.{_≡_};
 ghost use mathlib.Core.Bool.{_&&_};
@@ -16,7 +16,6 @@ ghost use Rattle.rules.specs.State.{historyOf};
 ghost use Rattle.rules.specs.Frame.{inFrame};
 ghost use Rattle.rules.specs.History.{historyInFrame};
 ghost use Rattle.rules.specs.Answer.{bookOf};
-ghost use Rattle.frames.specs.Parts.{deskWith};
 ghost use Rattle.tables.specs.Rows.{rowAt};
 
 // The record in row i; what the table does not have of it is zeros.
@@ -57,27 +56,8 @@ fn number_at(history: &[u64], i: usize, k: usize) -> u64
 }
 
 // Whether a book is in frame, "for provenance and trace also" its history.
-pub fn book_in_frame<'a>(
-    balances: &'a [u64; 128],
-    holders: &'a [u64; 8],
-    lifetime: &'a [u64; 8],
-    settled: &'a [u64; 8],
-    counts: Counts,
-    inbox: &[u64],
-    outbox: &[u64],
-    history: &[u64],
-) -> bool
-    ensures { λ r. ⌜ r ≡ inFrame (bookOf (deskWith (now (balances .entry)) (now (holders .entry)) (now (lifetime .entry)) (now (settled .entry)) counts) (now (inbox .entry)) (now (outbox .entry)) (now (history .entry))) && historyInFrame (historyOf (bookOf (deskWith (now (balances .entry)) (now (holders .entry)) (now (lifetime .entry)) (now (settled .entry)) counts) (now (inbox .entry)) (now (outbox .entry)) (now (history .entry)))) ⌝ }
+pub fn book_in_frame(d: Desk, inbox: &[u64], outbox: &[u64], history: &[u64]) -> bool
+    ensures { λ r. ⌜ r ≡ inFrame (bookOf d (now (inbox .entry)) (now (outbox .entry)) (now (history .entry))) && historyInFrame (historyOf (bookOf d (now (inbox .entry)) (now (outbox .entry)) (now (history .entry)))) ⌝ }
 {
-    let framed = in_frame(
-        balances,
-        holders,
-        lifetime,
-        settled,
-        counts,
-        inbox,
-        outbox,
-        history,
-    );
-    framed & history_in_frame(history, counts.records)
+    framed(d, inbox, outbox, history) & history_in_frame(history, d.records)
 }

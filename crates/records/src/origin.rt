@@ -3,7 +3,6 @@ use crate::book_in_frame;
 use crate::record_at;
 use desk::fields::is_asset;
 use desk::fields::is_member;
-use frames::counts_of;
 use rules::answers::Origin;
 use rules::answers::Refusal;
 use rules::desk::Desk;
@@ -28,17 +27,7 @@ pub fn provenance(
 ) -> Origin
     ensures { λ r. ⌜ toldOrigin r ≡ provenanceAnswer (bookOf d (now (inbox .entry)) (now (outbox .entry)) (now (history .entry))) member asset ⌝ }
 {
-    let counts = counts_of(d);
-    let framed = book_in_frame(
-        &d.balances,
-        &d.holders,
-        &d.lifetime,
-        &d.settled,
-        counts,
-        inbox,
-        outbox,
-        history,
-    );
+    let framed = book_in_frame(d, inbox, outbox, history);
     if !framed {
         let why = Refusal::BadBook;
         return Origin::Refused(why);

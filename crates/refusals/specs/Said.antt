@@ -1,13 +1,18 @@
 -- The number of a line's reply, and when the number is all that the line comes to.
 use Prim.Native.Nat.{ℕ}
+use mathlib.Core.Path.{_≡_}
 use mathlib.Core.Bool.{Bool, true, false, not, _||_}
+use mathlib.Core.List.{List}
 use Rattle.rules.specs.declared.calls.Call.{Call}
 use Rattle.rules.specs.declared.calls.Line.{Line}
 use Rattle.rules.specs.declared.answers.Refusal.{Refusal}
 use Rattle.rules.specs.declared.answers.Answer.{Answer}
 use Rattle.rules.specs.State.{Book}
-use Rattle.rules.specs.Replies.{numberOf}
-use Rattle.rules.specs.Answer.{replyNumber}
+use Rattle.rules.specs.Replies.{numberOf, told, plain}
+use Rattle.rules.specs.Frame.{inFrame}
+use Rattle.rules.specs.Answer.{replyNumber, bookOf}
+use Rattle.frames.specs.declared.Counts.{Counts}
+use Rattle.frames.specs.Parts.{deskWith}
 use Rattle.desk.specs.Parts.{isDone}
 
 -- the reply number that a line gets
@@ -31,3 +36,9 @@ isSign (Call.Trace n) = false
 unfoldable pub saysAll : Line → Answer → Bool
 saysAll (Line.Reads c) a = not (isDone a) || isSign c
 saysAll Line.Malformed a = true
+
+-- what a call's table of refusals answers, handed the parts of a book that the tables read: of every book in frame that has these parts, the number that the call gets
+abbrev pub TableTold : List ℕ → List ℕ → List ℕ → Counts → List ℕ → List ℕ → List ℕ → Call → Answer → Type 0
+TableTold balances holders lifetime counts inbox outbox history c r =
+    (settled : List ℕ) → inFrame (bookOf (deskWith balances holders lifetime settled counts) inbox outbox history) ≡ true
+    → told r ≡ plain (replyNumber (bookOf (deskWith balances holders lifetime settled counts) inbox outbox history) c)

@@ -2,6 +2,7 @@
 // lists are lent, so that a line whose number is all that it comes to copies no desk.
 use desk::answers::is_done;
 use frames::Counts;
+use frames::in_frame;
 use rules::answers::Answer;
 use rules::answers::Refusal;
 use rules::calls::Call;
@@ -10,7 +11,7 @@ ghost use mathlib.Core.Path.{_≡_};
 ghost use Rattle.rules.specs.Replies.{told, plain};
 ghost use Rattle.rules.specs.Answer.{replyNumber, bookOf};
 ghost use Rattle.frames.specs.Parts.{deskWith};
-ghost use Rattle.refusals.specs.Said.{lineReplyNumber, isSign, saysAll};
+ghost use Rattle.refusals.specs.Said.{lineReplyNumber, isSign, saysAll, TableTold};
 
 // The reply number that a line gets: 1 Malformed, or what its call's table of refusals comes to.
 pub fn line_reply<'a>(
@@ -45,8 +46,8 @@ pub fn line_reply<'a>(
     }
 }
 
-// The reply number that a call gets: the smallest of its refusals that apply, or 0. A trace is asked for with tables
-// that have a row for each record that a history can have.
+// The reply number that a call gets: 2 BadBook where the book is out of frame, which is tested here and once, or what
+// its table of refusals comes to.
 pub fn call_reply<'a>(
     balances: &'a [u64; 128],
     holders: &'a [u64; 8],
@@ -60,109 +61,70 @@ pub fn call_reply<'a>(
 ) -> Answer
     ensures { λ r. ⌜ told r ≡ plain (replyNumber (bookOf (deskWith (now (balances .entry)) (now (holders .entry)) (now (lifetime .entry)) (now (settled .entry)) counts) (now (inbox .entry)) (now (outbox .entry)) (now (history .entry))) c) ⌝ }
 {
+    let is_framed = in_frame(
+        balances,
+        holders,
+        lifetime,
+        settled,
+        counts,
+        inbox,
+        outbox,
+        history,
+    );
+    if !is_framed {
+        let why = Refusal::BadBook;
+        return Answer::Refused(why);
+    }
+    table_reply(
+        balances,
+        holders,
+        lifetime,
+        counts,
+        inbox,
+        outbox,
+        history,
+        c,
+    )
+}
+
+// The smallest of the refusals that apply to a book in frame, or 0: each table is handed what it reads. A trace is
+// asked for with tables that have a row for each record that a history can have.
+fn table_reply<'a>(
+    balances: &'a [u64; 128],
+    holders: &'a [u64; 8],
+    lifetime: &'a [u64; 8],
+    counts: Counts,
+    inbox: &[u64],
+    outbox: &[u64],
+    history: &[u64],
+    c: Call,
+) -> Answer
+    ensures { λ r. ⌜ TableTold (now (balances .entry)) (now (holders .entry)) (now (lifetime .entry)) counts (now (inbox .entry)) (now (outbox .entry)) (now (history .entry)) c r ⌝ }
+{
     match c {
-        Call::Deposit(x) => inbox::deposit_reply(
-            balances,
-            holders,
-            lifetime,
-            settled,
-            counts,
-            inbox,
-            outbox,
-            history,
-            x,
-        ),
-        Call::Claim(x) => inbox::claim_reply(
-            balances,
-            holders,
-            lifetime,
-            settled,
-            counts,
-            inbox,
-            outbox,
-            history,
-            x,
-        ),
-        Call::Transfer(x) => ledger::transfer_reply(
-            balances,
-            holders,
-            lifetime,
-            settled,
-            counts,
-            inbox,
-            outbox,
-            history,
-            x,
-        ),
-        Call::Withdraw(x) => outbox::withdraw_reply(
-            balances,
-            holders,
-            lifetime,
-            settled,
-            counts,
-            inbox,
-            outbox,
-            history,
-            x,
-        ),
-        Call::Send => outbox::send_reply(
-            balances,
-            holders,
-            lifetime,
-            settled,
-            counts,
-            inbox,
-            outbox,
-            history,
-        ),
-        Call::Settle(n) => outbox::settle_reply(
-            balances,
-            holders,
-            lifetime,
-            settled,
-            counts,
-            inbox,
-            outbox,
-            history,
-            n,
-        ),
-        Call::Grant(x) => ledger::grant_reply(
-            balances,
-            holders,
-            lifetime,
-            settled,
-            counts,
-            inbox,
-            outbox,
-            history,
-            x,
-        ),
-        Call::Sign(x) => ledger::sign_reply(
-            balances,
-            holders,
-            lifetime,
-            settled,
-            counts,
-            inbox,
-            outbox,
-            history,
-            x,
-        ),
+        Call::Deposit(x) => {
+            let last = counts.last;
+            inbox::deposit_reply(lifetime, last, counts.unclaimed, x)
+        }
+        Call::Claim(x) => {
+            let waits = inbox::is_unclaimed(inbox, counts.unclaimed, x);
+            inbox::claim_reply(waits, counts.records, x)
+        }
+        Call::Transfer(x) => ledger::transfer_reply(balances, counts.records, x),
+        Call::Withdraw(x) => outbox::withdraw_reply(balances, counts.payments, counts.records, x),
+        Call::Send => {
+            let waiting = outbox::count_waiting(counts.payments, counts.inflight);
+            outbox::send_reply(waiting)
+        }
+        Call::Settle(n) => {
+            let due = outbox::first_nonce(outbox);
+            outbox::settle_reply(counts.inflight, due, n)
+        }
+        Call::Grant(x) => ledger::grant_reply(holders, counts.records, x),
+        Call::Sign(x) => ledger::sign_reply(holders, x),
         Call::Trace(n) => {
             let rows: usize = 1024;
-            history::refusals::trace_reply(
-                balances,
-                holders,
-                lifetime,
-                settled,
-                counts,
-                inbox,
-                outbox,
-                history,
-                rows,
-                rows,
-                n,
-            )
+            history::refusals::history_reply(history, counts.records, rows, rows, n)
         }
     }
 }

@@ -11,16 +11,16 @@ use borrow.Author.Tests.{leb-false, ltb-false, eqb-true, eqb-false}
 use Rattle.rules.specs.Types.{Nonce, Deposit, ClaimFields, TransferFields, WithdrawalFields, GrantFields, SignFields, Call, Payment}
 use Rattle.rules.specs.Limits.{ceiling, highestNumber, inboxRows, outboxRows, historyRows}
 use Rattle.rules.specs.Lists.{all, any}
-use Rattle.rules.specs.State.{State, Book, view, laid, historyOf, payments}
-use Rattle.rules.specs.Replies.{Reply, numberOf, told, if-done}
-use Rattle.rules.specs.Refusals.{refusals, traceRefusals, full}
+use Rattle.rules.specs.State.{State, Book, view, historyOf, payments}
+use Rattle.rules.specs.Replies.{Reply, numberOf, told, smaller, smallest, if-done}
+use Rattle.rules.specs.Refusals.{table, refusals, fulls, traceRefusals, full}
 use Rattle.rules.specs.Effects.{effect, balance, holder, matches, total, oldest}
 use Rattle.rules.specs.Frame.{inFrame}
 use Rattle.rules.specs.History.{withdrawals, historyInFrame}
-use Rattle.rules.specs.Answer.{frameTest, replyNumber, replyWith, doneAnswer, answer}
+use Rattle.rules.specs.Answer.{asked, done, frameTest, replyNumber, replyWith, doneAnswer, answer}
 use Rattle.rules.proofs.Shapes.{view-laid}
-use Rattle.rules.specs.Facts.{Accepted, Within, DepositFit, ClaimFit, TransferFit, WithdrawalFit, SendFit, SettleFit, GrantFit, SignFit, TraceFit, Fit}
-use Rattle.rules.proofs.Tests.{twice-not, not-holds, neither, within-true, all-at, numbered, none-applies}
+use Rattle.rules.specs.Facts.{Accepted, Within, DepositFit, ClaimFit, TransferFit, WithdrawalFit, SendFit, SettleFit, GrantFit, SignFit, TraceFit, Fit, RoomIn, Room}
+use Rattle.rules.proofs.Tests.{twice-not, not-holds, neither, within-true, all-at, all-last, numbered, none-applies, smallest-from}
 
 -- ---- the number in a reply
 -- what a done call tells has the number 0
@@ -55,8 +55,8 @@ by-number b c e = record { done = reply-number b c ∙ e }
 
 -- ---- what acceptance gives
 -- every number in a call's table, BadBook's too, is a refusal's
-pub table-numbered : (b : Book) (c : Call) → numbered (frameTest b c ∷ refusals (view b) c) ≡ true
-unfolding all frameTest refusals traceRefusals numberOf
+pub table-numbered : (b : Book) (c : Call) → numbered (asked b c) ≡ true
+unfolding all frameTest refusals fulls traceRefusals numberOf
 table-numbered b (Call.Deposit d) = refl
 table-numbered b (Call.Claim c) = refl
 table-numbered b (Call.Transfer t) = refl
@@ -67,11 +67,23 @@ table-numbered b (Call.Grant g) = refl
 table-numbered b (Call.Sign g) = refl
 table-numbered b (Call.Trace n) = refl
 
+pub refusals-numbered : (s : State) (c : Call) → numbered (refusals s c) ≡ true
+unfolding all refusals traceRefusals numberOf
+refusals-numbered s (Call.Deposit d) = refl
+refusals-numbered s (Call.Claim c) = refl
+refusals-numbered s (Call.Transfer t) = refl
+refusals-numbered s (Call.Withdraw w) = refl
+refusals-numbered s Call.Send = refl
+refusals-numbered s (Call.Settle n) = refl
+refusals-numbered s (Call.Grant g) = refl
+refusals-numbered s (Call.Sign g) = refl
+refusals-numbered s (Call.Trace n) = refl
+
 -- of an accepted call no refusal applies: the one at place k does not
-refused-not : (b : Book) (c : Call) → Accepted b c → (k : ℕ) → not (getD (frameTest b c ∷ refusals (view b) c) k (1, false) .1) ≡ true
+refused-not : (b : Book) (c : Call) → Accepted b c → (k : ℕ) → not (getD (asked b c) k (1, false) .1) ≡ true
 unfolding replyNumber
 refused-not b c a k =
-    all-at (λ r. not (r .1)) (frameTest b c ∷ refusals (view b) c) k (1, false) refl (none-applies (frameTest b c ∷ refusals (view b) c) (table-numbered b c) (accepted-number b c a))
+    all-at (λ r. not (r .1)) (asked b c) k (1, false) refl (none-applies (asked b c) (table-numbered b c) (accepted-number b c a))
 
 -- the book is in frame
 pub accepted-frame : (b : Book) (c : Call) → Accepted b c → inFrame b ≡ true
@@ -96,11 +108,6 @@ fields-in hi x y h =
     let (p, q) = neither (not (leb 1 x && leb x hi)) (not (leb 1 y && leb y hi)) h in
     (field-in hi x p, field-in hi y q)
 
--- a table is not full: there is a row for one more
-has-room : {A : Type 0} (rows : ℕ) (used : List A) → not (full rows used) ≡ true → length used < rows
-unfolding full
-has-room rows used h = leb-false rows (length used) (not-holds (leb rows (length used)) h)
-
 -- a test "below" that does not hold; a test of equality that does not; one that does
 not-below : (x y : ℕ) → not (ltb x y) ≡ true → y ≤ x
 not-below x y h = ltb-false x y (not-holds (ltb x y) h)
@@ -116,7 +123,7 @@ deposit-fit : (b : Book) (d : Deposit) → Accepted b (Call.Deposit d) → Depos
 unfolding refusals
 deposit-fit b d a =
     let last : ℕ = view b .outside .last .0 in
-    let no : (k : ℕ) → not (getD (frameTest b (Call.Deposit d) ∷ refusals (view b) (Call.Deposit d)) k (1, false) .1) ≡ true = refused-not b (Call.Deposit d) a in
+    let no : (k : ℕ) → not (getD (asked b (Call.Deposit d)) k (1, false) .1) ≡ true = refused-not b (Call.Deposit d) a in
     let old : last < d .number .0 = leb-false (d .number .0) last (not-holds (leb (d .number .0) last) (no 4)) in
     let (gap, high) = neither (ltb (last + 1) (d .number .0)) (ltb highestNumber (d .number .0)) (no 5) in
     let low : d .number .0 ≤ last + 1 = not-below (last + 1) (d .number .0) gap in
@@ -127,25 +134,23 @@ deposit-fit b d a =
       next = omega arith;
       numbered = not-below highestNumber (d .number .0) high;
       below = not-below ceiling (total (view b .outside .lifetime) (d .asset) + d .amount) (no 6);
-      room = has-room inboxRows (view b .inbox) (no 7);
     }
 
 claim-fit : (b : Book) (c : ClaimFields) → Accepted b (Call.Claim c) → ClaimFit (view b) c
 unfolding refusals
 claim-fit b c a =
-    let no : (k : ℕ) → not (getD (frameTest b (Call.Claim c) ∷ refusals (view b) (Call.Claim c)) k (1, false) .1) ≡ true = refused-not b (Call.Claim c) a in
+    let no : (k : ℕ) → not (getD (asked b (Call.Claim c)) k (1, false) .1) ≡ true = refused-not b (Call.Claim c) a in
     record {
       member = field-in 16 (c .member) (no 1);
       asset = field-in 8 (c .asset) (no 2);
       amount = field-in ceiling (c .amount) (no 3);
       found = twice-not (any (matches c) (view b .inbox)) (no 4);
-      room = has-room historyRows (view b .history) (no 5);
     }
 
 transfer-fit : (b : Book) (t : TransferFields) → Accepted b (Call.Transfer t) → TransferFit (view b) t
 unfolding refusals
 transfer-fit b t a =
-    let no : (k : ℕ) → not (getD (frameTest b (Call.Transfer t) ∷ refusals (view b) (Call.Transfer t)) k (1, false) .1) ≡ true = refused-not b (Call.Transfer t) a in
+    let no : (k : ℕ) → not (getD (asked b (Call.Transfer t)) k (1, false) .1) ≡ true = refused-not b (Call.Transfer t) a in
     let (from, to) = fields-in 16 (t .from) (t .to) (no 1) in
     record {
       from = from;
@@ -154,21 +159,18 @@ transfer-fit b t a =
       amount = field-in ceiling (t .amount) (no 3);
       others = differ (t .from) (t .to) (no 4);
       enough = not-below (balance (view b .balances) (t .from) (t .asset)) (t .amount) (no 5);
-      room = has-room historyRows (view b .history) (no 6);
     }
 
 withdrawal-fit : (b : Book) (w : WithdrawalFields) → Accepted b (Call.Withdraw w) → WithdrawalFit (view b) w
 unfolding refusals
 withdrawal-fit b w a =
-    let no : (k : ℕ) → not (getD (frameTest b (Call.Withdraw w) ∷ refusals (view b) (Call.Withdraw w)) k (1, false) .1) ≡ true = refused-not b (Call.Withdraw w) a in
+    let no : (k : ℕ) → not (getD (asked b (Call.Withdraw w)) k (1, false) .1) ≡ true = refused-not b (Call.Withdraw w) a in
     record {
       member = field-in 16 (w .member) (no 1);
       asset = field-in 8 (w .asset) (no 2);
       amount = field-in ceiling (w .amount) (no 3);
       payee = field-in 65_535 (w .payee) (no 4);
       enough = not-below (balance (view b .balances) (w .member) (w .asset)) (w .amount) (no 5);
-      queue = has-room outboxRows (payments (view b .outside)) (no 6);
-      room = has-room historyRows (view b .history) (no 7);
     }
 
 send-fit : (b : Book) → Accepted b Call.Send → SendFit (view b)
@@ -188,7 +190,7 @@ settle-fit b n a =
 grant-fit : (b : Book) (g : GrantFields) → Accepted b (Call.Grant g) → GrantFit (view b) g
 unfolding refusals
 grant-fit b g a =
-    let no : (k : ℕ) → not (getD (frameTest b (Call.Grant g) ∷ refusals (view b) (Call.Grant g)) k (1, false) .1) ≡ true = refused-not b (Call.Grant g) a in
+    let no : (k : ℕ) → not (getD (asked b (Call.Grant g)) k (1, false) .1) ≡ true = refused-not b (Call.Grant g) a in
     let (from, to) = fields-in 16 (g .from) (g .to) (no 1) in
     record {
       from = from;
@@ -196,7 +198,6 @@ grant-fit b g a =
       domain = field-in 8 (g .domain) (no 2);
       others = differ (g .from) (g .to) (no 3);
       holds = equal (holder (view b .holders) (g .domain)) (g .from) (no 4);
-      room = has-room historyRows (view b .history) (no 5);
     }
 
 sign-fit : (b : Book) (g : SignFields) → Accepted b (Call.Sign g) → SignFit (view b) g
@@ -229,6 +230,32 @@ fit b (Call.Grant g) a = grant-fit b g a
 fit b (Call.Sign g) a = sign-fit b g a
 fit b (Call.Trace n) a = trace-fit b n a
 
+-- ---- room
+-- a table is not full: there is a row for one more
+has-room : {A : Type 0} (rows : ℕ) (used : List A) → not (full rows used) ≡ true → RoomIn rows used
+unfolding full
+has-room rows used h = record { room = leb-false rows (length used) (not-holds (leb rows (length used)) h) }
+
+-- of an accepted call no table that it needs a row of is full: the one at place k is not
+full-not : (b : Book) (c : Call) → Accepted b c → (k : ℕ) → not (getD (fulls (view b) c) k (1, false) .1) ≡ true
+unfolding replyNumber
+full-not b c a k =
+    let none : all (λ r. not (r .1)) (asked b c) ≡ true = none-applies (asked b c) (table-numbered b c) (accepted-number b c a) in
+    all-at (λ r. not (r .1)) (fulls (view b) c) k (1, false) refl (all-last (λ r. not (r .1)) (frameTest b c ∷ refusals (view b) c) (fulls (view b) c) none)
+
+pub roomy : (b : Book) (c : Call) → Accepted b c → Room (view b) c
+unfolding fulls
+roomy b (Call.Deposit d) a = has-room inboxRows (view b .inbox) (full-not b (Call.Deposit d) a 0)
+roomy b (Call.Claim c) a = has-room historyRows (view b .history) (full-not b (Call.Claim c) a 0)
+roomy b (Call.Transfer t) a = has-room historyRows (view b .history) (full-not b (Call.Transfer t) a 0)
+roomy b (Call.Withdraw w) a =
+    (has-room outboxRows (payments (view b .outside)) (full-not b (Call.Withdraw w) a 0), has-room historyRows (view b .history) (full-not b (Call.Withdraw w) a 1))
+roomy b Call.Send a = record {}
+roomy b (Call.Settle n) a = record {}
+roomy b (Call.Grant g) a = has-room historyRows (view b .history) (full-not b (Call.Grant g) a 0)
+roomy b (Call.Sign g) a = record {}
+roomy b (Call.Trace n) a = record {}
+
 -- ---- what a call leaves
 -- this or that by the number
 pub not-done : {A : Type 0} (n : ℕ) (x y : A) → n ≢ 0 → if-done n x y ≡ y
@@ -240,16 +267,48 @@ if-done-of : {A B : Type 0} (f : A → B) (n : ℕ) (x y : A) → f (if-done n x
 if-done-of f zero x y = refl
 if-done-of f (suc n) x y = refl
 
+-- the state of the book that a done call leaves is its effect
+pub view-done : (b : Book) (c : Call) → view (done c b) ≡ effect c (view b)
+view-done b c = view-laid (effect c (view b)) b
+
 -- the state after a call: the effect where it is accepted, and the state as it was where it is refused
 pub state-after : (b : Book) (c : Call) → view (answer b c .book) ≡ if-done (replyNumber b c) (effect c (view b)) (view b)
 unfolding answer
-state-after b c = rw (if-done-of view (replyNumber b c) (laid (effect c (view b)) b) b, view-laid (effect c (view b)) b)
+state-after b c = rw (if-done-of view (replyNumber b c) (done c b) b, view-done b c)
 
 -- the book that an accepted call leaves
-pub book-accepted : (b : Book) (c : Call) → Accepted b c → answer b c .book ≡ laid (effect c (view b)) b
+pub book-accepted : (b : Book) (c : Call) → Accepted b c → answer b c .book ≡ done c b
 unfolding answer
 book-accepted b c a = rw (accepted-number b c a)
 
 -- its state is the effect
 pub state-accepted : (b : Book) (c : Call) → Accepted b c → view (answer b c .book) ≡ effect c (view b)
 state-accepted b c a = state-after b c ∙ rw (accepted-number b c a)
+
+-- ---- the frame comes first
+-- every other number is above BadBook's
+table-above : (s : State) (c : Call) → all (λ r. leb 3 (r .0)) (table s c) ≡ true
+unfolding all refusals fulls traceRefusals numberOf
+table-above s (Call.Deposit d) = refl
+table-above s (Call.Claim c) = refl
+table-above s (Call.Transfer t) = refl
+table-above s (Call.Withdraw w) = refl
+table-above s Call.Send = refl
+table-above s (Call.Settle n) = refl
+table-above s (Call.Grant g) = refl
+table-above s (Call.Sign g) = refl
+table-above s (Call.Trace n) = refl
+
+-- so the number is 2 where the frame's test applies
+pub unframed-number : (b : Book) (c : Call) → frameTest b c ≡ (2, true) → replyNumber b c ≡ 2
+unfolding replyNumber smallest
+unframed-number b c e = rw e (first (smallest (table (view b) c)) (smallest-from 3 (table (view b) c) (table-above (view b) c)))
+  where
+    first : (m : ℕ) → (m ≢ 0 → 3 ≤ m) → smaller 2 m ≡ 2
+    first zero h = refl
+    first (suc m) h = omega (arith, h (λ z. omega arith))
+
+-- and its table's where it does not
+pub framed-number : (b : Book) (c : Call) → frameTest b c .1 ≡ false → replyNumber b c ≡ smallest (table (view b) c)
+unfolding replyNumber smallest
+framed-number b c e = rw e

@@ -15,13 +15,13 @@ use Rattle.rules.specs.Tables.{Edit, lay, edited, appended, editedTable,
 use Rattle.rules.specs.State.{State, Book, inboxOf, outboxOf, historyOf, payments, view, laid, deskOf}
 use Rattle.rules.specs.Effects.{effect, balancesAfter, holdersAfter, matches, inboxEdit, withdrawn, sent, settledOne, deposited, outsideAfter, outboxEdit, recordsOf, changesNothing, edits}
 use Rattle.rules.specs.Replies.{if-done}
-use Rattle.rules.specs.Answer.{replyNumber, answer}
+use Rattle.rules.specs.Answer.{done, replyNumber, answer}
 use Rattle.rules.specs.Frame.{upToCeiling, inFrame}
-use Rattle.rules.specs.Facts.{Accepted, Fit}
+use Rattle.rules.specs.Facts.{Accepted, Fit, Room}
 use Rattle.rules.proofs.Laying.{RoomFor, length-rows, lay-edited}
 use Rattle.rules.proofs.Shapes.{depositSound, paymentSound, recordSound}
 use Rattle.rules.proofs.Tests.{ands-at}
-use Rattle.rules.proofs.Accepts.{by-number, fit, accepted-frame}
+use Rattle.rules.proofs.Accepts.{by-number, fit, roomy, accepted-frame}
 
 -- ---- a book in frame
 pub record Framed (b : Book) : Type 0 where
@@ -39,7 +39,7 @@ pub record Framed (b : Book) : Type 0 where
   pub next : b .desk .next .0 ≤ 1024
 
 pub framed : (b : Book) → inFrame b ≡ true → Framed b
-unfolding inFrame
+unfolding inFrame view
 framed b h =
     record {
       inboxSize = eqb-true _ _ (ands-at _ 0 h);
@@ -119,7 +119,7 @@ index-found p l h =
 
 -- ---- what an accepted call does to the rows
 -- the payments after it, as its edit says
-payments-after : (s : State) (c : Call) → Fit s c → payments (outsideAfter c (s .outside)) ≡ edited (outboxEdit c (s .outside)) (payments (s .outside))
+pub payments-after : (s : State) (c : Call) → Fit s c → payments (outsideAfter c (s .outside)) ≡ edited (outboxEdit c (s .outside)) (payments (s .outside))
 unfolding outsideAfter deposited withdrawn sent settledOne outboxEdit edited
 payments-after s (Call.Deposit d) k = refl
 payments-after s (Call.Claim c) k = refl
@@ -134,7 +134,7 @@ payments-after s (Call.Sign g) k = refl
 payments-after s (Call.Trace n) k = refl
 
 -- the records after it
-records-after : (s : State) (c : Call) → s .history ++ recordsOf c ≡ edited (appended (recordsOf c)) (s .history)
+pub records-after : (s : State) (c : Call) → s .history ++ recordsOf c ≡ edited (appended (recordsOf c)) (s .history)
 unfolding recordsOf appended edited
 records-after s (Call.Deposit d) = append-nil (s .history)
 records-after s (Call.Claim c) = refl
@@ -148,66 +148,66 @@ records-after s (Call.Trace n) = append-nil (s .history)
 
 -- ---- each table has room for the edit
 module _ (b : Book) (f : Framed b) where
-  inbox-room : (c : Call) → Fit (view b) c → RoomFor depositShape (inboxEdit c (inboxOf b)) (b .desk .unclaimed) (b .inbox)
+  inbox-room : (c : Call) → Fit (view b) c → Room (view b) c → RoomFor depositShape (inboxEdit c (inboxOf b)) (b .desk .unclaimed) (b .inbox)
   unfolding RoomFor inboxEdit view
-  inbox-room (Call.Deposit d) k = let l = inbox-count b f in omega (arith, k .room)
-  inbox-room (Call.Claim c) k = let l = inbox-count b f in (omega (arith, index-found (matches c) (inboxOf b) (k .found)), omega arith)
-  inbox-room (Call.Transfer t) k = omega arith
-  inbox-room (Call.Withdraw w) k = omega arith
-  inbox-room Call.Send k = omega arith
-  inbox-room (Call.Settle n) k = omega arith
-  inbox-room (Call.Grant g) k = omega arith
-  inbox-room (Call.Sign g) k = omega arith
-  inbox-room (Call.Trace n) k = omega arith
+  inbox-room (Call.Deposit d) k r = let l = inbox-count b f in omega (arith, r .room)
+  inbox-room (Call.Claim c) k r = let l = inbox-count b f in (omega (arith, index-found (matches c) (inboxOf b) (k .found)), omega arith)
+  inbox-room (Call.Transfer t) k r = omega arith
+  inbox-room (Call.Withdraw w) k r = omega arith
+  inbox-room Call.Send k r = omega arith
+  inbox-room (Call.Settle n) k r = omega arith
+  inbox-room (Call.Grant g) k r = omega arith
+  inbox-room (Call.Sign g) k r = omega arith
+  inbox-room (Call.Trace n) k r = omega arith
 
-  outbox-room : (c : Call) → Fit (view b) c → RoomFor paymentShape (outboxEdit c (view b .outside)) (b .desk .payments) (b .outbox)
+  outbox-room : (c : Call) → Fit (view b) c → Room (view b) c → RoomFor paymentShape (outboxEdit c (view b .outside)) (b .desk .payments) (b .outbox)
   unfolding RoomFor outboxEdit
-  outbox-room (Call.Deposit d) k = omega arith
-  outbox-room (Call.Claim c) k = omega arith
-  outbox-room (Call.Transfer t) k = omega arith
-  outbox-room (Call.Withdraw w) k = let l = outbox-count b f in omega (arith, k .queue)
-  outbox-room Call.Send k = omega arith
-  outbox-room (Call.Settle n) k = let l = flight-count b f in (omega (arith, k .some), omega arith)
-  outbox-room (Call.Grant g) k = omega arith
-  outbox-room (Call.Sign g) k = omega arith
-  outbox-room (Call.Trace n) k = omega arith
+  outbox-room (Call.Deposit d) k r = omega arith
+  outbox-room (Call.Claim c) k r = omega arith
+  outbox-room (Call.Transfer t) k r = omega arith
+  outbox-room (Call.Withdraw w) k r = let l = outbox-count b f in omega (arith, r .0 .room)
+  outbox-room Call.Send k r = omega arith
+  outbox-room (Call.Settle n) k r = let l = flight-count b f in (omega (arith, k .some), omega arith)
+  outbox-room (Call.Grant g) k r = omega arith
+  outbox-room (Call.Sign g) k r = omega arith
+  outbox-room (Call.Trace n) k r = omega arith
 
-  history-room : (c : Call) → Fit (view b) c → RoomFor recordShape (appended (recordsOf c)) (b .desk .records) (b .history)
+  history-room : (c : Call) → Room (view b) c → RoomFor recordShape (appended (recordsOf c)) (b .desk .records) (b .history)
   unfolding RoomFor appended recordsOf view
-  history-room (Call.Deposit d) k = omega arith
-  history-room (Call.Claim c) k = let l = length-rows recordShape (b .desk .records) (b .history) in omega (arith, k .room)
-  history-room (Call.Transfer t) k = let l = length-rows recordShape (b .desk .records) (b .history) in omega (arith, k .room)
-  history-room (Call.Withdraw w) k = let l = length-rows recordShape (b .desk .records) (b .history) in omega (arith, k .room)
-  history-room Call.Send k = omega arith
-  history-room (Call.Settle n) k = omega arith
-  history-room (Call.Grant g) k = let l = length-rows recordShape (b .desk .records) (b .history) in omega (arith, k .room)
-  history-room (Call.Sign g) k = omega arith
-  history-room (Call.Trace n) k = omega arith
+  history-room (Call.Deposit d) r = omega arith
+  history-room (Call.Claim c) r = let l = length-rows recordShape (b .desk .records) (b .history) in omega (arith, r .room)
+  history-room (Call.Transfer t) r = let l = length-rows recordShape (b .desk .records) (b .history) in omega (arith, r .room)
+  history-room (Call.Withdraw w) r = let l = length-rows recordShape (b .desk .records) (b .history) in omega (arith, r .1 .room)
+  history-room Call.Send r = omega arith
+  history-room (Call.Settle n) r = omega arith
+  history-room (Call.Grant g) r = let l = length-rows recordShape (b .desk .records) (b .history) in omega (arith, r .room)
+  history-room (Call.Sign g) r = omega arith
+  history-room (Call.Trace n) r = omega arith
 
 -- so of each flat table an accepted call leaves its one edit, every other number as it was
 module _ (b : Book) (c : Call) (a : Accepted b c) where
   in-frame : Framed b
   in-frame = framed b (accepted-frame b c a)
 
-  pub inbox-left : laid (effect c (view b)) b .inbox ≡ editedTable depositShape (edits c (view b) .inbox) (b .desk .unclaimed) (b .inbox)
+  pub inbox-left : done c b .inbox ≡ editedTable depositShape (edits c (view b) .inbox) (b .desk .unclaimed) (b .inbox)
   unfolding laid effect edits view
-  inbox-left = lay-edited depositShape depositSound (inboxEdit c (inboxOf b)) (b .desk .unclaimed) (b .inbox) (inbox-room b in-frame c (fit b c a))
+  inbox-left = lay-edited depositShape depositSound (inboxEdit c (inboxOf b)) (b .desk .unclaimed) (b .inbox) (inbox-room b in-frame c (fit b c a) (roomy b c a))
 
-  pub outbox-left : laid (effect c (view b)) b .outbox ≡ editedTable paymentShape (edits c (view b) .outbox) (b .desk .payments) (b .outbox)
+  pub outbox-left : done c b .outbox ≡ editedTable paymentShape (edits c (view b) .outbox) (b .desk .payments) (b .outbox)
   unfolding laid effect edits
   outbox-left =
       rw (payments-after (view b) c (fit b c a), payments-are b in-frame)
-      (lay-edited paymentShape paymentSound (outboxEdit c (view b .outside)) (b .desk .payments) (b .outbox) (outbox-room b in-frame c (fit b c a)))
+      (lay-edited paymentShape paymentSound (outboxEdit c (view b .outside)) (b .desk .payments) (b .outbox) (outbox-room b in-frame c (fit b c a) (roomy b c a)))
 
-  pub history-left : laid (effect c (view b)) b .history ≡ editedTable recordShape (edits c (view b) .history) (b .desk .records) (b .history)
+  pub history-left : done c b .history ≡ editedTable recordShape (edits c (view b) .history) (b .desk .records) (b .history)
   unfolding laid effect edits view
   history-left =
       rw (records-after (view b) c)
-      (lay-edited recordShape recordSound (appended (recordsOf c)) (b .desk .records) (b .history) (history-room b in-frame c (fit b c a)))
+      (lay-edited recordShape recordSound (appended (recordsOf c)) (b .desk .records) (b .history) (history-room b in-frame c (roomy b c a)))
 
 -- ---- a call that changes nothing
 -- what a done one lays is what was there
-pub nothing-laid : (b : Book) (c : Call) → changesNothing c ≡ true → Framed b → laid (effect c (view b)) b ≡ b
+pub nothing-laid : (b : Book) (c : Call) → changesNothing c ≡ true → Framed b → done c b ≡ b
 unfolding changesNothing laid deskOf effect balancesAfter holdersAfter inboxEdit edited outsideAfter recordsOf view
 nothing-laid b (Call.Deposit d) h f = absurd (false≢true h)
 nothing-laid b (Call.Claim c) h f = absurd (false≢true h)
@@ -226,6 +226,6 @@ pub nothing-changed : (b : Book) (c : Call) → changesNothing c ≡ true → an
 unfolding answer
 nothing-changed b c h = go (replyNumber b c) refl
   where
-    go : (k : ℕ) → replyNumber b c ≡ k → if-done k (laid (effect c (view b)) b) b ≡ b
+    go : (k : ℕ) → replyNumber b c ≡ k → if-done k (done c b) b ≡ b
     go zero e = nothing-laid b c h (framed b (accepted-frame b c (by-number b c e)))
     go (suc k) e = refl

@@ -3,7 +3,11 @@ use mathlib.Core.Path.{_≡_, refl, sym, _∙_}
 use base.Logic.{ent, sep, id⊢, via, fst∗, snd∗}
 use contract.Monad.{conj, conjL, conjR, fact, factI, fact-use}
 use borrow.Fn.World.{World, Pr}
-use Rattle.rules.specs.Types.{Answer}
+use Prim.Native.Nat.{ℕ}
+use mathlib.Core.List.{List, []}
+use lib.ListN.{replicate}
+use Rattle.rules.specs.Types.{DepositNumber, Deposit, Payment, Answer}
+use Rattle.rules.specs.State.{Outside, State}
 use Rattle.rules.specs.Replies.{Reply, told}
 use Rattle.rules.proofs.Told.{told-once, once}
 
@@ -41,3 +45,22 @@ module _ (w : World) where
   -- one for what is left of the first parameter
   pub first : {A B L : Type 0} {y t t′ : A} {r : B} {l : L} → Both (t ≡ y) (t′ ≡ y) ((r ≡ r) × (_≡_ {A = A × L} (t, l) (t′, l)))
   first {l = l} = both (λ p q. (refl, λ j. (once _ p q j, l)))
+
+-- ---- tables of refusals
+-- whatever a table reads, some state has it: these balances, holders and unclaimed deposits, this outside, and so many records
+abbrev pub someState : List ℕ → List ℕ → List Deposit → Outside → ℕ → State
+someState balances holders inbox outside records =
+    record {
+      balances = balances;
+      holders = holders;
+      inbox = inbox;
+      outside = outside;
+      history = replicate records (record { kind = 0; asset = 0; amount = 0; first = 0; second = 0 });
+    }
+
+abbrev pub someOutside : List ℕ → DepositNumber → List Payment → List Payment → Outside
+someOutside lifetime last flying waiting = record { lifetime = lifetime; settled = []; last = last; next = record { 0 = 0 }; inflight = flying; waiting = waiting }
+
+-- nothing outside
+abbrev pub noOutside : Outside
+noOutside = someOutside [] (record { 0 = 0 }) [] []

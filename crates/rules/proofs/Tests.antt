@@ -1,14 +1,15 @@
 -- Tests read as facts, and lists of tests.
 use Prim.Native.Nat.{ℕ, zero, suc, _≤_, _<_}
 use mathlib.Core.Path.{_≡_, refl, sym}
+use mathlib.Core.Logic.{_≢_}
 use mathlib.Core.Bool.{Bool, true, false, not, _&&_, _||_, cond, and-eq-true-iff, false≢true}
-use mathlib.Core.List.{List, [], _∷_}
+use mathlib.Core.List.{List, [], _∷_, _++_}
 use native.Mathlib.Omega.{arith}
-use lib.Dec.{leb}
+use lib.Dec.{leb, eqb}
 use lib.ListN.{length, getD, set}
-use borrow.Author.Tests.{leb-true, le-leb}
+use borrow.Author.Tests.{leb-true, le-leb, eqb-true}
 use Rattle.rules.specs.Limits.{within}
-use Rattle.rules.specs.Lists.{all, ands}
+use Rattle.rules.specs.Lists.{all, ands, same}
 use Rattle.rules.specs.Replies.{smaller, smallest}
 use Rattle.rules.specs.Facts.{Within}
 
@@ -60,6 +61,12 @@ all-at p [] k d e h = e
 all-at p (x ∷ xs) zero d e h = both (p x) (all p xs) h .0
 all-at p (x ∷ xs) (suc k) d e h = all-at p xs k d e (both (p x) (all p xs) h .1)
 
+-- the last elements, whatever stands before them
+pub all-last : {A : Type 0} (p : A → Bool) (xs ys : List A) → all p (xs ++ ys) ≡ true → all p ys ≡ true
+unfolding all
+all-last p [] ys h = h
+all-last p (x ∷ xs) ys h = all-last p xs ys (both (p x) (all p (xs ++ ys)) h .1)
+
 -- a list passes if the element at every place does
 pub all-of : {A : Type 0} (p : A → Bool) (d : A) (xs : List A) → ((i : ℕ) → i < length xs → p (getD xs i d) ≡ true) → all p xs ≡ true
 unfolding all
@@ -74,6 +81,15 @@ all-set p (y ∷ xs) zero x h e = rw e (both (p y) (all p xs) h .1)
 all-set p (y ∷ xs) (suc i) x h e =
     let (a, t) = both (p y) (all p xs) h in
     rw a (all-set p xs i x t e)
+
+pub same-eq : (w f : List ℕ) → same w f ≡ true → w ≡ f
+unfolding same
+same-eq [] [] h = refl
+same-eq [] (y ∷ f) h = absurd (false≢true h)
+same-eq (x ∷ w) [] h = absurd (false≢true h)
+same-eq (x ∷ w) (y ∷ f) h =
+    let (a, b) = both (eqb x y) (same w f) h in
+    rw (eqb-true x y a, same-eq w f b)
 
 -- ---- a table of refusals
 -- its numbers are refusals' numbers, from 1 on
@@ -106,3 +122,16 @@ nothing-smallest [] h = refl
 nothing-smallest (r ∷ rs) h =
     let (a, t) = both (not (r .1)) (noneApplies rs) h in
     rw (not-holds (r .1) a) (nothing-smallest rs t)
+
+-- where none of a table's numbers is below k, neither is the smallest that applies
+pub smallest-from : (k : ℕ) (rs : List (ℕ × Bool)) → all (λ r. leb k (r .0)) rs ≡ true → smallest rs ≢ 0 → k ≤ smallest rs
+unfolding all smallest
+smallest-from k [] h z = absurd (z refl)
+smallest-from k (r ∷ rs) h z =
+    let (a, t) = both (leb k (r .0)) (all (λ r. leb k (r .0)) rs) h in
+    go (r .1) (smallest rs) (leb-true k (r .0) a) (smallest-from k rs t) z
+  where
+    go : (t : Bool) (m : ℕ) → k ≤ r .0 → (m ≢ 0 → k ≤ m) → cond t (smaller (r .0) m) m ≢ 0 → k ≤ cond t (smaller (r .0) m) m
+    go true zero l i z = l
+    go true (suc m) l i z = omega (arith, i (λ e. omega arith))
+    go false m l i z = i z

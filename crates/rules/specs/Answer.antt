@@ -6,7 +6,7 @@ use lib.ListN.{length, drop, replicate}
 use Rattle.rules.specs.Types.{Nonce, Lot, Refusal, Call, Answer, Answered, Origin, Desk}
 use Rattle.rules.specs.State.{State, Book, view, laid, historyOf}
 use Rattle.rules.specs.Replies.{Reply, told, toldOrigin, refuse, smallest, if-done}
-use Rattle.rules.specs.Refusals.{refusals, traceRefusals, badMember, badAsset}
+use Rattle.rules.specs.Refusals.{table, traceRefusals, badMember, badAsset}
 use Rattle.rules.specs.Effects.{effect, oldest}
 use Rattle.rules.specs.Frame.{inFrame}
 use Rattle.rules.specs.History.{historyInFrame, provenanceOf}
@@ -30,9 +30,17 @@ frameTest b (Call.Grant g) = badBook b
 frameTest b (Call.Sign g) = badBook b
 frameTest b (Call.Trace n) = badHistory b
 
+-- the refusals that a call can get, each with whether it applies
+abbrev pub asked : Book → Call → List (ℕ × Bool)
+asked b c = frameTest b c ∷ table (view b) c
+
 -- the number that a call gets
 unfoldable pub replyNumber : Book → Call → ℕ
-replyNumber b c = smallest (frameTest b c ∷ refusals (view b) c)
+replyNumber b c = smallest (asked b c)
+
+-- the book that a done call leaves: its effect, laid back into the tables
+abbrev pub done : Call → Book → Book
+done c b = laid (effect c (view b)) b
 
 -- a reply with this number: what a done call tells, or the number alone
 abbrev pub replyWith : ℕ → Reply → Reply
@@ -80,7 +88,7 @@ answer b c =
     record {
       reply = replyWith (replyNumber b c) (told (doneAnswer (view b) c));
       pieces = if-done (replyNumber b c) (piecesOf (view b) c) [];
-      book = if-done (replyNumber b c) (laid (effect c (view b)) b) b;
+      book = if-done (replyNumber b c) (done c b) b;
     }
 
 -- ---- trace, lent its two tables: the pieces fill the first rows of theirs, "the rest keep what they had, and every row of the work table ends as zeros"

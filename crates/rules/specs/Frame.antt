@@ -8,7 +8,7 @@ use Rattle.rules.specs.Types.{Deposit, Payment}
 use Rattle.rules.specs.Limits.{ceiling, inboxRows, outboxRows, historyRows, highestNumber, highestNext, isMember, isAsset, isAmount, isPayee}
 use Rattle.rules.specs.Lists.{all, ands}
 use Rattle.rules.specs.Tables.{Shape, depositShape, paymentShape, recordShape}
-use Rattle.rules.specs.State.{Book, inboxOf, outboxOf}
+use Rattle.rules.specs.State.{Book, view, payments}
 
 -- a table of the right size
 abbrev pub hasRows : {A : Type 0} → Shape A → ℕ → List ℕ → Bool
@@ -37,6 +37,7 @@ noncesFrom due (p ∷ ps) = eqb (p .nonce .0) due && noncesFrom (due + 1) ps
 unfoldable pub noncesRise : ℕ → List Payment → Bool
 noncesRise next ps = leb (length ps) next && noncesFrom (next - length ps) ps
 
+-- the sizes of the tables and the counts are of the book, all else of its state
 unfoldable pub inFrame : Book → Bool
 inFrame b =
     ands
@@ -47,14 +48,14 @@ inFrame b =
     ∷ leb (b .desk .payments) outboxRows
     ∷ leb (b .desk .records) historyRows
     ∷ leb (b .desk .inflight) (b .desk .payments)
-    ∷ all upToCeiling (b .desk .balances)
-    ∷ all upToCeiling (b .desk .lifetime)
-    ∷ all upToCeiling (b .desk .settled)
-    ∷ all depositInLimits (inboxOf b)
-    ∷ all paymentInLimits (outboxOf b)
-    ∷ numbersRise 0 (b .desk .last .0) (inboxOf b)
-    ∷ noncesRise (b .desk .next .0) (outboxOf b)
-    ∷ leb (b .desk .last .0) highestNumber
-    ∷ leb (b .desk .next .0) highestNext
-    ∷ all isMember (b .desk .holders)
+    ∷ all upToCeiling (view b .balances)
+    ∷ all upToCeiling (view b .outside .lifetime)
+    ∷ all upToCeiling (view b .outside .settled)
+    ∷ all depositInLimits (view b .inbox)
+    ∷ all paymentInLimits (payments (view b .outside))
+    ∷ numbersRise 0 (view b .outside .last .0) (view b .inbox)
+    ∷ noncesRise (view b .outside .next .0) (payments (view b .outside))
+    ∷ leb (view b .outside .last .0) highestNumber
+    ∷ leb (view b .outside .next .0) highestNext
+    ∷ all isMember (view b .holders)
     ∷ [])

@@ -1,6 +1,8 @@
 -- Document 01, "Out of frame": for each clause books that break it and nothing else. The book that they are made of is in frame.
 use Prim.Native.Nat.{ℕ, _+_}
+use mathlib.Core.Bool.{cond}
 use mathlib.Core.List.{List, [], _∷_, _++_}
+use lib.Dec.{eqb}
 use lib.ListN.{take, set}
 use Rattle.rules.specs.Types.{Call, Desk}
 use Rattle.rules.specs.Limits.{ceiling}
@@ -38,39 +40,59 @@ historyAs f = record { desk = sample .desk; inbox = sample .inbox; outbox = samp
 abbrev pub deskAs : (Desk → Desk) → Book
 deskAs f = record { desk = f (sample .desk); inbox = sample .inbox; outbox = sample .outbox; history = sample .history }
 
--- the desk with other lists, and with other counters and counts
-abbrev pub lists : (List ℕ → List ℕ) → (List ℕ → List ℕ) → (List ℕ → List ℕ) → (List ℕ → List ℕ) → Desk → Desk
-lists bs hs ls ss d =
+-- a desk with its lists, and its counters and counts, made anew, each by its place among them
+abbrev pub partsAs : (ℕ → List ℕ → List ℕ) → (ℕ → ℕ → ℕ) → Desk → Desk
+partsAs list count d =
     record {
-      balances = bs (d .balances);
-      holders = hs (d .holders);
-      lifetime = ls (d .lifetime);
-      settled = ss (d .settled);
-      last = d .last;
-      next = d .next;
-      unclaimed = d .unclaimed;
-      payments = d .payments;
-      inflight = d .inflight;
-      records = d .records;
+      balances = list 0 (d .balances);
+      holders = list 1 (d .holders);
+      lifetime = list 2 (d .lifetime);
+      settled = list 3 (d .settled);
+      last = record { 0 = count 0 (d .last .0) };
+      next = record { 0 = count 1 (d .next .0) };
+      unclaimed = count 2 (d .unclaimed);
+      payments = count 3 (d .payments);
+      inflight = count 4 (d .inflight);
+      records = count 5 (d .records);
     }
 
-abbrev pub counts : ℕ → ℕ → ℕ → ℕ → ℕ → ℕ → Desk → Desk
-counts last next unclaimed payments inflight records d =
-    record {
-      balances = d .balances;
-      holders = d .holders;
-      lifetime = d .lifetime;
-      settled = d .settled;
-      last = record { 0 = last };
-      next = record { 0 = next };
-      unclaimed = unclaimed;
-      payments = payments;
-      inflight = inflight;
-      records = records;
-    }
+-- one list, or one count, and all else as it is
+abbrev pub listAs : ℕ → (List ℕ → List ℕ) → Desk → Desk
+listAs k f = partsAs (λ i l. cond (eqb i k) (f l) l) (λ i n. n)
 
-abbrev pub asIs : List ℕ → List ℕ
-asIs l = l
+abbrev pub countAs : ℕ → ℕ → Desk → Desk
+countAs k n = partsAs (λ i l. l) (λ i m. cond (eqb i k) n m)
+
+-- each by its name
+abbrev pub balancesAs : (List ℕ → List ℕ) → Desk → Desk
+balancesAs f = listAs 0 f
+
+abbrev pub holdersAs : (List ℕ → List ℕ) → Desk → Desk
+holdersAs f = listAs 1 f
+
+abbrev pub lifetimeAs : (List ℕ → List ℕ) → Desk → Desk
+lifetimeAs f = listAs 2 f
+
+abbrev pub settledAs : (List ℕ → List ℕ) → Desk → Desk
+settledAs f = listAs 3 f
+
+abbrev pub lastAs : ℕ → Desk → Desk
+lastAs n = countAs 0 n
+
+abbrev pub nextAs : ℕ → Desk → Desk
+nextAs n = countAs 1 n
+
+abbrev pub unclaimedAs : ℕ → Desk → Desk
+unclaimedAs n = countAs 2 n
+
+abbrev pub paymentsAs : ℕ → Desk → Desk
+paymentsAs n = countAs 3 n
+
+abbrev pub inflightAs : ℕ → Desk → Desk
+inflightAs n = countAs 4 n
+
+abbrev pub recordsAs : ℕ → Desk → Desk
+recordsAs n = countAs 5 n
 
 -- another number at a place
 abbrev pub with : ℕ → ℕ → List ℕ → List ℕ
@@ -86,13 +108,13 @@ outOfFrame =
     ∷ historyAs (λ t. take 5119 t)
     ∷ historyAs (λ t. t ++ (0 ∷ []))
     -- a count above its rows: only the history's can break nothing else, as its rows are not read
-    ∷ deskAs (counts 4 2 2 2 1 1025)
+    ∷ deskAs (recordsAs 1025)
     -- more in flight than in the outbox
-    ∷ deskAs (counts 4 2 2 2 3 6)
+    ∷ deskAs (inflightAs 3)
     -- a balance, lifetime total or settled total above the ceiling
-    ∷ deskAs (lists (with 127 (ceiling + 1)) asIs asIs asIs)
-    ∷ deskAs (lists asIs asIs (with 0 (ceiling + 1)) asIs)
-    ∷ deskAs (lists asIs asIs asIs (with 7 (ceiling + 1)))
+    ∷ deskAs (balancesAs (with 127 (ceiling + 1)))
+    ∷ deskAs (lifetimeAs (with 0 (ceiling + 1)))
+    ∷ deskAs (settledAs (with 7 (ceiling + 1)))
     -- a member, asset or amount in a used inbox row outside its limit
     ∷ inboxAs (with 7 0)
     ∷ inboxAs (with 7 17)
@@ -116,20 +138,20 @@ outOfFrame =
     ∷ outboxAs (with 7 0)
     ∷ outboxAs (with 7 2)
     ∷ outboxAs (λ t. with 3 1 (with 7 2 t))
-    ∷ deskAs (counts 4 3 2 2 1 6)
-    ∷ deskAs (counts 4 1 2 2 1 6)
+    ∷ deskAs (nextAs 3)
+    ∷ deskAs (nextAs 1)
     -- next nonce above 1,024, with an empty outbox
-    ∷ deskAs (counts 4 1025 2 0 0 6)
+    ∷ deskAs (λ d. nextAs 1025 (paymentsAs 0 (inflightAs 0 d)))
     -- last deposit number above 4,294,967,295
-    ∷ deskAs (counts 4294967296 2 2 2 1 6)
+    ∷ deskAs (lastAs 4294967296)
     -- a holder outside 1 to 16
-    ∷ deskAs (lists asIs (with 0 0) asIs asIs)
-    ∷ deskAs (lists asIs (with 7 17) asIs asIs)
+    ∷ deskAs (holdersAs (with 0 0))
+    ∷ deskAs (holdersAs (with 7 17))
     ∷ []
 
 -- a count of the inbox or the outbox above its rows: the rows past the table's end break other clauses too
 unfoldable pub tooManyRows : List Book
-tooManyRows = deskAs (counts 4 2 65 2 1 6) ∷ deskAs (counts 4 2 2 33 1 6) ∷ []
+tooManyRows = deskAs (unclaimedAs 65) ∷ deskAs (paymentsAs 33) ∷ []
 
 -- "For provenance and trace also": histories that break one clause, in books whose other clauses all hold. The whole used history is tested: the last record too.
 unfoldable pub badHistories : List Book

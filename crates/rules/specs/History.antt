@@ -7,7 +7,7 @@ use lib.ListN.{length, getD, set}
 use Rattle.rules.specs.Types.{Record}
 use Rattle.rules.specs.Limits.{isMember, isAsset, isDomain, isAmount, isPayee, isDepositNumber}
 use Rattle.rules.specs.Lists.{those}
-use Rattle.rules.specs.State.{emptyState}
+use Rattle.rules.specs.State.{firstHolders, emptyState}
 use Rattle.rules.specs.Effects.{balance, credit, debit, holder}
 
 -- "Kind numbers are 1 to 4 and nothing else"
@@ -71,13 +71,14 @@ unfoldable pub withdrawals : List Record → ℕ
 withdrawals h = length (those isWithdrawal h)
 
 -- ---- the test
--- what the replay carries from record to record: balances and holders, from those of an empty book on
+-- what the replay carries from record to record: balances and holders
 pub record Standing : Type 0 where
   pub balances : List ℕ
   pub holders : List ℕ
 
-unfoldable pub emptyStanding : Standing
-emptyStanding = record { balances = emptyState .balances; holders = emptyState .holders }
+-- it starts from the balances of an empty book, and from these holders
+unfoldable pub standingFrom : List ℕ → Standing
+standingFrom holders = record { balances = emptyState .balances; holders = holders }
 
 unfoldable pub standingAs : Kind → Standing → Record → Standing
 standingAs Kind.claim s r = record { balances = credit (s .balances) (r .first) (r .asset) (r .amount); holders = s .holders }
@@ -117,5 +118,9 @@ unfoldable pub replays : Standing → List Record → Bool
 replays s [] = true
 replays s (r ∷ rs) = fits s r && replays (standingAfter s r) rs
 
+-- from these holders on
+abbrev pub passesFrom : List ℕ → List Record → Bool
+passesFrom holders h = replays (standingFrom holders) h
+
 abbrev pub historyInFrame : List Record → Bool
-historyInFrame h = replays emptyStanding h
+historyInFrame h = passesFrom firstHolders h

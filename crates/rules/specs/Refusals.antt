@@ -1,7 +1,7 @@
--- Document 01, "Reply numbers": for each call its table of refusals, the number and when it is given. Two stand apart: Malformed is about the line (Lines), BadBook about the book (Frame, History).
+-- Document 01, "Reply numbers": for each call its table of refusals, the number and when it is given; those that say that a table is full stand in a table of their own. Two stand apart: Malformed is about the line (Lines), BadBook about the book (Frame, History).
 use Prim.Native.Nat.{ℕ, _+_}
 use mathlib.Core.Bool.{Bool, not, _||_}
-use mathlib.Core.List.{List, [], _∷_}
+use mathlib.Core.List.{List, [], _∷_, _++_}
 use lib.Dec.{leb, ltb, eqb}
 use lib.ListN.{length}
 use Rattle.rules.specs.Types.{Deposit, Nonce, Refusal, Call}
@@ -12,9 +12,19 @@ use Rattle.rules.specs.Replies.{refuse}
 use Rattle.rules.specs.Effects.{balance, holder, matches, total, oldest}
 use Rattle.rules.specs.History.{withdrawals}
 
--- a table has no row for one more
+-- "is there room": a table of so many rows, of which these are used, has no row for one more
 unfoldable pub full : {A : Type 0} → ℕ → List A → Bool
 full rows used = leb rows (length used)
+
+-- 12: 64 unclaimed; 16: 32 payments, waiting or in flight; 17: 1,024 records
+abbrev pub inboxFull : State → ℕ × Bool
+inboxFull s = refuse Refusal.InboxFull (full inboxRows (s .inbox))
+
+abbrev pub outboxFull : State → ℕ × Bool
+outboxFull s = refuse Refusal.OutboxFull (full outboxRows (payments (s .outside)))
+
+abbrev pub historyFull : State → ℕ × Bool
+historyFull s = refuse Refusal.HistoryFull (full historyRows (s .history))
 
 -- a field outside its limit
 abbrev pub badMember : ℕ → ℕ × Bool
@@ -44,10 +54,6 @@ short s m a x = refuse Refusal.Short (ltb (balance (s .balances) m a) x)
 abbrev pub notHolder : State → ℕ → ℕ → ℕ × Bool
 notHolder s m d = refuse Refusal.NotHolder (not (eqb (holder (s .holders) d) m))
 
--- 17: 1,024 records
-abbrev pub historyFull : State → ℕ × Bool
-historyFull s = refuse Refusal.HistoryFull (full historyRows (s .history))
-
 -- 20 and 21, with how many rows the two lent tables have: "each with at least as many rows as the history has records"
 unfoldable pub traceRefusals : ℕ → ℕ → State → Nonce → List (ℕ × Bool)
 traceRefusals workRows pieceRows s n =
@@ -63,14 +69,12 @@ refusals s (Call.Deposit d) =
     ∷ refuse Refusal.Old (leb (d .number .0) (s .outside .last .0))
     ∷ refuse Refusal.Gap (ltb (s .outside .last .0 + 1) (d .number .0) || ltb highestNumber (d .number .0))
     ∷ refuse Refusal.Ceiling (ltb ceiling (total (s .outside .lifetime) (d .asset) + d .amount))
-    ∷ refuse Refusal.InboxFull (full inboxRows (s .inbox))
     ∷ []
 refusals s (Call.Claim c) =
     badMember (c .member)
     ∷ badAsset (c .asset)
     ∷ badAmount (c .amount)
     ∷ refuse Refusal.NoSuchDeposit (not (any (matches c) (s .inbox)))
-    ∷ historyFull s
     ∷ []
 refusals s (Call.Transfer t) =
     badMembers (t .from) (t .to)
@@ -78,7 +82,6 @@ refusals s (Call.Transfer t) =
     ∷ badAmount (t .amount)
     ∷ sameMember (t .from) (t .to)
     ∷ short s (t .from) (t .asset) (t .amount)
-    ∷ historyFull s
     ∷ []
 refusals s (Call.Withdraw w) =
     badMember (w .member)
@@ -86,8 +89,6 @@ refusals s (Call.Withdraw w) =
     ∷ badAmount (w .amount)
     ∷ refuse Refusal.BadPayee (not (isPayee (w .payee)))
     ∷ short s (w .member) (w .asset) (w .amount)
-    ∷ refuse Refusal.OutboxFull (full outboxRows (payments (s .outside)))
-    ∷ historyFull s
     ∷ []
 refusals s Call.Send = refuse Refusal.NothingWaiting (eqb (length (s .outside .waiting)) 0) ∷ []
 refusals s (Call.Settle n) =
@@ -97,8 +98,23 @@ refusals s (Call.Grant g) =
     ∷ badDomain (g .domain)
     ∷ sameMember (g .from) (g .to)
     ∷ notHolder s (g .from) (g .domain)
-    ∷ historyFull s
     ∷ []
 refusals s (Call.Sign g) = badMember (g .member) ∷ badDomain (g .domain) ∷ notHolder s (g .member) (g .domain) ∷ []
 -- said as with tables of as many rows as a history can have: the book runner's have a row for each record
 refusals s (Call.Trace n) = traceRefusals historyRows historyRows s n
+
+-- the tables that a call needs a row of, and that have none
+unfoldable pub fulls : State → Call → List (ℕ × Bool)
+fulls s (Call.Deposit d) = inboxFull s ∷ []
+fulls s (Call.Claim c) = historyFull s ∷ []
+fulls s (Call.Transfer t) = historyFull s ∷ []
+fulls s (Call.Withdraw w) = outboxFull s ∷ historyFull s ∷ []
+fulls s Call.Send = []
+fulls s (Call.Settle n) = []
+fulls s (Call.Grant g) = historyFull s ∷ []
+fulls s (Call.Sign g) = []
+fulls s (Call.Trace n) = []
+
+-- all that a call can be refused for but 1 Malformed and 2 BadBook
+abbrev pub table : State → Call → List (ℕ × Bool)
+table s c = refusals s c ++ fulls s c

@@ -7,7 +7,7 @@ use lib.Dec.{eqb}
 use Rattle.rules.specs.Types.{Deposit, Payment, Call}
 use Rattle.rules.specs.Limits.{memberCount}
 use Rattle.rules.specs.Lists.{sumOf}
-use Rattle.rules.specs.State.{Book, inboxOf, outboxOf}
+use Rattle.rules.specs.State.{Book, view, payments}
 use Rattle.rules.specs.Effects.{balance}
 use Rattle.rules.specs.Runs.{run, deposits, settlements}
 
@@ -31,13 +31,13 @@ settledSum a b cs = sumOf (paidIn a) (settlements b cs)
 
 -- of a book
 unfoldable pub unclaimedSum : ℕ → Book → ℕ
-unclaimedSum a b = sumOf (depositedIn a) (inboxOf b)
+unclaimedSum a b = sumOf (depositedIn a) (view b .inbox)
 
 unfoldable pub balancesSum : ℕ → Book → ℕ
-balancesSum a b = sumOf (λ m. balance (b .desk .balances) m a) (upFrom 1 memberCount)
+balancesSum a b = sumOf (λ m. balance (view b .balances) m a) (upFrom 1 memberCount)
 
 unfoldable pub outboxSum : ℕ → Book → ℕ
-outboxSum a b = sumOf (paidIn a) (outboxOf b)
+outboxSum a b = sumOf (paidIn a) (payments (view b .outside))
 
 -- "accepted deposits = unclaimed + balances + outbox + settled", after the calls from an empty book on
 unfoldable pub BalanceSheet : ℕ → Book → List Call → Type 0

@@ -89,12 +89,16 @@ laid s b =
       history = lay recordShape (s .history) (b .desk .records) (b .history);
     }
 
+-- the holders that every book starts with: "member 1 holding every domain"
+unfoldable pub firstHolders : List ℕ
+firstHolders = replicate domainCount 1
+
 -- "An empty book has all balances, totals and counts 0, last deposit number 0, next nonce 0, and member 1 holding every domain."
 unfoldable pub emptyState : State
 emptyState =
     record {
       balances = replicate (memberCount * assetCount) 0;
-      holders = replicate domainCount 1;
+      holders = firstHolders;
       inbox = [];
       outside =
           record {

@@ -1,15 +1,7 @@
-use Rattle.rules.specs.Answer.{bookOf}
-use Rattle.frames.specs.Parts.{deskWith}
 use Rattle.inbox.proofs.Laws.{claim-told}
 use borrow.Author.Needs.{needs}
 use Rattle.inbox.proofs.claim_reply.Statement.{statement}
 use Rattle.inbox.proofs.claim_reply.Tie as tie
-
-slice-aggregate-find-row : tie.Need-slice-aggregate-find-row
-slice-aggregate-find-row c = search needs
-
-find-row-requires : tie.Need-find-row-requires
-find-row-requires c κs = search needs
 
 refuse-requires : tie.Need-refuse-requires
 refuse-requires c κs = search needs
@@ -35,24 +27,16 @@ is-member-requires c κs = search needs
 refuse-requires-5 : tie.Need-refuse-requires-5
 refuse-requires-5 c κs = search needs
 
-in-frame-requires : tie.Need-in-frame-requires
-in-frame-requires c κs = search needs
-
-refuse-requires-6 : tie.Need-refuse-requires-6
-refuse-requires-6 c κs = search needs
-
 returns : tie.Need-returns
 returns c =
-    let a = c .before .before .before .before .before .before .before .before .before .before .before .before .before .before .before .before .before .before .args in
-    rw (c .refuse6 .ensures, c .before .in-frame .ensures, c .before .before .refuse5 .ensures, c .before .before .before .is-member .ensures, c .before .before .before .before .refuse4 .ensures, c .before .before .before .before .before .is-asset .ensures, c .before .before .before .before .before .before .refuse3 .ensures, c .before .before .before .before .before .before .before .is-amount .ensures, c .before .before .before .before .before .before .before .before .refuse2 .ensures, c .before .before .before .before .before .before .before .before .before .before .refuse .ensures, c .before .before .before .before .before .before .before .before .before .before .before .before .find-row .ensures)
-    (claim-told (bookOf (deskWith (a .balances .now) (a .holders .now) (a .lifetime .now) (a .settled .now) (a .counts)) (a .inbox .now) (a .outbox .now) (a .history .now)) (a .c))
+    let a = c .before .before .before .before .before .before .before .before .args in
+    rw (c .refuse5 .ensures, c .before .is-member .ensures, c .before .before .refuse4 .ensures, c .before .before .before .is-asset .ensures, c .before .before .before .before .refuse3 .ensures, c .before .before .before .before .before .is-amount .ensures, c .before .before .before .before .before .before .refuse2 .ensures, c .before .before .before .before .before .before .before .refuse .ensures)
+    (claim-told (a .waits) (a .records) (a .c))
 
 pub claim-reply-spec : {M : Type 1} → statement M
 claim-reply-spec =
     tie.close
     (tie.spec
-    slice-aggregate-find-row
-    find-row-requires
     refuse-requires
     refuse-requires-2
     is-amount-requires
@@ -61,6 +45,4 @@ claim-reply-spec =
     refuse-requires-4
     is-member-requires
     refuse-requires-5
-    in-frame-requires
-    refuse-requires-6
     returns)

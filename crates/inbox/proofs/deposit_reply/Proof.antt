@@ -1,5 +1,3 @@
-use Rattle.rules.specs.Answer.{bookOf}
-use Rattle.frames.specs.Parts.{deskWith}
 use Rattle.inbox.proofs.Laws.{deposit-told}
 use borrow.Author.Needs.{needs}
 use Rattle.inbox.proofs.deposit_reply.Statement.{statement}
@@ -44,17 +42,11 @@ is-member-requires c κs = search needs
 refuse-requires-7 : tie.Need-refuse-requires-7
 refuse-requires-7 c κs = search needs
 
-in-frame-requires : tie.Need-in-frame-requires
-in-frame-requires c κs = search needs
-
-refuse-requires-8 : tie.Need-refuse-requires-8
-refuse-requires-8 c κs = search needs
-
 returns : tie.Need-returns
 returns c =
-    let a = c .before .before .before .before .before .before .before .before .before .before .before .before .before .before .before .before .before .before .before .before .before .before .before .args in
-    rw (c .refuse8 .ensures, c .before .in-frame .ensures, c .before .before .refuse7 .ensures, c .before .before .before .is-member .ensures, c .before .before .before .before .refuse6 .ensures, c .before .before .before .before .before .is-asset .ensures, c .before .before .before .before .before .before .refuse5 .ensures, c .before .before .before .before .before .before .before .is-amount .ensures, c .before .before .before .before .before .before .before .before .refuse4 .ensures, c .before .before .before .before .before .before .before .before .before .before .before .refuse3 .ensures, c .before .before .before .before .before .before .before .before .before .before .before .before .is-gap .ensures, c .before .before .before .before .before .before .before .before .before .before .before .before .before .refuse2 .ensures, c .before .before .before .before .before .before .before .before .before .before .before .before .before .before .passes-ceiling .ensures, c .before .before .before .before .before .before .before .before .before .before .before .before .before .before .before .of-eight .ensures, c .before .before .before .before .before .before .before .before .before .before .before .before .before .before .before .before .refuse .ensures)
-    (deposit-told (bookOf (deskWith (a .balances .now) (a .holders .now) (a .lifetime .now) (a .settled .now) (a .counts)) (a .inbox .now) (a .outbox .now) (a .history .now)) (a .x))
+    let a = c .before .before .before .before .before .before .before .before .before .before .before .before .before .before .before .before .args in
+    rw (c .refuse7 .ensures, c .before .is-member .ensures, c .before .before .refuse6 .ensures, c .before .before .before .is-asset .ensures, c .before .before .before .before .refuse5 .ensures, c .before .before .before .before .before .is-amount .ensures, c .before .before .before .before .before .before .refuse4 .ensures, c .before .before .before .before .before .before .before .before .before .refuse3 .ensures, c .before .before .before .before .before .before .before .before .before .before .is-gap .ensures, c .before .before .before .before .before .before .before .before .before .before .before .refuse2 .ensures, c .before .before .before .before .before .before .before .before .before .before .before .before .passes-ceiling .ensures, c .before .before .before .before .before .before .before .before .before .before .before .before .before .of-eight .ensures, c .before .before .before .before .before .before .before .before .before .before .before .before .before .before .refuse .ensures)
+    (deposit-told (a .lifetime .now) (a .last) (a .unclaimed) (a .x))
 
 pub deposit-reply-spec : {M : Type 1} → statement M
 deposit-reply-spec =
@@ -73,6 +65,4 @@ deposit-reply-spec =
     refuse-requires-6
     is-member-requires
     refuse-requires-7
-    in-frame-requires
-    refuse-requires-8
     returns)

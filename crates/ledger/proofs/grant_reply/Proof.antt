@@ -1,5 +1,3 @@
-use Rattle.rules.specs.Answer.{bookOf}
-use Rattle.frames.specs.Parts.{deskWith}
 use Rattle.ledger.proofs.Laws.{grant-told}
 use borrow.Author.Needs.{needs}
 use Rattle.ledger.proofs.grant_reply.Statement.{statement}
@@ -32,17 +30,11 @@ is-member-requires-2 c κs = search needs
 refuse-requires-5 : tie.Need-refuse-requires-5
 refuse-requires-5 c κs = search needs
 
-in-frame-requires : tie.Need-in-frame-requires
-in-frame-requires c κs = search needs
-
-refuse-requires-6 : tie.Need-refuse-requires-6
-refuse-requires-6 c κs = search needs
-
 returns : tie.Need-returns
 returns c =
-    let a = c .before .before .before .before .before .before .before .before .before .before .before .before .before .before .before .before .before .args in
-    rw (c .refuse6 .ensures, c .before .in-frame .ensures, c .before .before .refuse5 .ensures, c .before .before .before .is-member2 .ensures, c .before .before .before .before .is-member .ensures, c .before .before .before .before .before .refuse4 .ensures, c .before .before .before .before .before .before .is-domain .ensures, c .before .before .before .before .before .before .before .refuse3 .ensures, c .before .before .before .before .before .before .before .before .before .refuse2 .ensures, c .before .before .before .before .before .before .before .before .before .before .before .of-eight .ensures, c .before .before .before .before .before .before .before .before .before .before .before .before .refuse .ensures)
-    (grant-told (bookOf (deskWith (a .balances .now) (a .holders .now) (a .lifetime .now) (a .settled .now) (a .counts)) (a .inbox .now) (a .outbox .now) (a .history .now)) (a .g))
+    let a = c .before .before .before .before .before .before .before .before .before .before .before .args in
+    rw (c .refuse5 .ensures, c .before .is-member2 .ensures, c .before .before .is-member .ensures, c .before .before .before .refuse4 .ensures, c .before .before .before .before .is-domain .ensures, c .before .before .before .before .before .refuse3 .ensures, c .before .before .before .before .before .before .before .refuse2 .ensures, c .before .before .before .before .before .before .before .before .before .of-eight .ensures, c .before .before .before .before .before .before .before .before .before .before .refuse .ensures)
+    (grant-told (a .holders .now) (a .records) (a .g))
 
 pub grant-reply-spec : {M : Type 1} → statement M
 grant-reply-spec =
@@ -57,6 +49,4 @@ grant-reply-spec =
     is-member-requires
     is-member-requires-2
     refuse-requires-5
-    in-frame-requires
-    refuse-requires-6
     returns)

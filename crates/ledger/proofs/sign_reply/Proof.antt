@@ -1,5 +1,3 @@
-use Rattle.rules.specs.Answer.{bookOf}
-use Rattle.frames.specs.Parts.{deskWith}
 use Rattle.ledger.proofs.Laws.{sign-told}
 use borrow.Author.Needs.{needs}
 use Rattle.ledger.proofs.sign_reply.Statement.{statement}
@@ -23,17 +21,11 @@ is-member-requires c κs = search needs
 refuse-requires-3 : tie.Need-refuse-requires-3
 refuse-requires-3 c κs = search needs
 
-in-frame-requires : tie.Need-in-frame-requires
-in-frame-requires c κs = search needs
-
-refuse-requires-4 : tie.Need-refuse-requires-4
-refuse-requires-4 c κs = search needs
-
 returns : tie.Need-returns
 returns c =
-    let a = c .before .before .before .before .before .before .before .before .before .before .before .before .args in
-    rw (c .refuse4 .ensures, c .before .in-frame .ensures, c .before .before .refuse3 .ensures, c .before .before .before .is-member .ensures, c .before .before .before .before .refuse2 .ensures, c .before .before .before .before .before .is-domain .ensures, c .before .before .before .before .before .before .refuse .ensures, c .before .before .before .before .before .before .before .before .of-eight .ensures)
-    (sign-told (bookOf (deskWith (a .balances .now) (a .holders .now) (a .lifetime .now) (a .settled .now) (a .counts)) (a .inbox .now) (a .outbox .now) (a .history .now)) (a .s))
+    let a = c .before .before .before .before .before .before .before .args in
+    rw (c .refuse3 .ensures, c .before .is-member .ensures, c .before .before .refuse2 .ensures, c .before .before .before .is-domain .ensures, c .before .before .before .before .refuse .ensures, c .before .before .before .before .before .before .of-eight .ensures)
+    (sign-told (a .holders .now) (a .g))
 
 pub sign-reply-spec : {M : Type 1} → statement M
 sign-reply-spec =
@@ -45,6 +37,4 @@ sign-reply-spec =
     refuse-requires-2
     is-member-requires
     refuse-requires-3
-    in-frame-requires
-    refuse-requires-4
     returns)

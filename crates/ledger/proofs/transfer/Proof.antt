@@ -1,12 +1,16 @@
-use mathlib.Core.Path.{_≡_, sym, ap, _∙_}
+use mathlib.Core.Path.{_≡_, refl, sym, ap, _∙_}
+use mathlib.Core.Bool.{Bool, not, cond}
 use borrow.Author.Tests.{not-true, not-false}
 use Rattle.rules.specs.declared.calls.Call.{Call}
-use Rattle.rules.specs.State.{Book}
+use Rattle.rules.specs.declared.answers.Answer.{Answer}
+use Rattle.rules.specs.declared.answers.Refusal.{Refusal}
+use Rattle.rules.specs.Tables.{recordShape}
+use Rattle.rules.specs.State.{Book, view}
 use Rattle.rules.specs.Replies.{told, plain}
-use Rattle.rules.specs.Answer.{bookOf, replyNumber}
+use Rattle.rules.specs.Answer.{bookOf, frameTest, replyNumber}
 use Rattle.rules.specs.Facts.{Accepted}
-use Rattle.frames.specs.Parts.{deskWith}
-use Rattle.desk.proofs.Books.{refuses, accepts}
+use Rattle.rules.proofs.Laying.{length-rows}
+use Rattle.desk.proofs.Books.{frame-told, refuses, accepts}
 use borrow.Author.Needs.{needs}
 use Rattle.ledger.proofs.transfer.Statement.{statement}
 use Rattle.ledger.proofs.transfer.Tie as tie
@@ -15,22 +19,27 @@ use Rattle.ledger.proofs.transfer.Tie as tie
 book : tie.Start → Book
 book c = bookOf (c .args .t1) (c .args .inbox .now) (c .args .outbox .now) (c .args .history .now)
 
--- the reply, told of the lent lists and the counts, is the one to that book
-replied : (c : tie.After-transfer-reply) → told (c .transfer-reply .result) ≡ plain (replyNumber (book (c .before .before .before .before .before .before .before .before .before .before .before)) (Call.Transfer (c .before .before .before .before .before .before .before .before .before .before .before .args .t)))
-unfolding book
+-- the reply is the rules': the frame's test, and then the table's, which reads what the desk has
+replied : (c : tie.After-refuse) → told (c .refuse .result) ≡ plain (replyNumber (book (c .before .before .before .before .before .before .before .before .before)) (Call.Transfer (c .before .before .before .before .before .before .before .before .before .args .t)))
+unfolding book frameTest view
 replied c =
-    let a = c .before .before .before .before .before .before .before .before .before .before .before .args in
-    c .transfer-reply .ensures ∙ ap (λ k. plain (replyNumber (bookOf (deskWith (a .t1 .balances) (a .t1 .holders) (a .t1 .lifetime) (a .t1 .settled) k) (a .inbox .now) (a .outbox .now) (a .history .now)) (Call.Transfer (a .t)))) (c .before .before .before .before .before .before .before .counts-of .ensures)
+    let b : Book = book (c .before .before .before .before .before .before .before .before .before) in
+    frame-told b (Call.Transfer (c .before .before .before .before .before .before .before .before .before .args .t)) (c .refuse .result) (c .before .transfer-reply .result) refl
+    (λ h. c .before .transfer-reply .ensures (view b) refl (length-rows recordShape (b .desk .records) (b .history)))
+    (c .refuse .ensures ∙ ap (λ (t : Bool). cond (not t) (Answer.Refused Refusal.BadBook) (c .before .transfer-reply .result)) (c .before .before .before .before .framed .ensures))
 
 -- past the test the call is accepted
-accepted : (c : tie.Else1) → Accepted (book (c .before .before .before .before .before .before .before .before .before .before .before .before .before)) (Call.Transfer (c .before .before .before .before .before .before .before .before .before .before .before .before .before .args .t))
-accepted c = accepts (book (c .before .before .before .before .before .before .before .before .before .before .before .before .before)) (Call.Transfer (c .before .before .before .before .before .before .before .before .before .before .before .before .before .args .t)) (c .before .before .transfer-reply .result) (replied (c .before .before)) (sym (c .before .is-done .ensures) ∙ not-false (c .before .is-done .result) (c .if1 .left))
+accepted : (c : tie.Else1) → Accepted (book (c .before .before .before .before .before .before .before .before .before .before .before)) (Call.Transfer (c .before .before .before .before .before .before .before .before .before .before .before .args .t))
+accepted c = accepts (book (c .before .before .before .before .before .before .before .before .before .before .before)) (Call.Transfer (c .before .before .before .before .before .before .before .before .before .before .before .args .t)) (c .before .before .refuse .result) (replied (c .before .before)) (sym (c .before .is-done .ensures) ∙ not-false (c .before .is-done .result) (c .if1 .left))
 
-counts-of-requires : tie.Need-counts-of-requires
-counts-of-requires c κs = search needs
+framed-requires : tie.Need-framed-requires
+framed-requires c κs = search needs
 
 transfer-reply-requires : tie.Need-transfer-reply-requires
 transfer-reply-requires c κs = search needs
+
+refuse-requires : tie.Need-refuse-requires
+refuse-requires c κs = search needs
 
 is-done-requires : tie.Need-is-done-requires
 is-done-requires c κs = search needs
@@ -40,7 +49,7 @@ same-length c = search needs
 
 returns : tie.Need-returns
 unfolding book
-returns c = refuses (book (c .before .before .before .before .before .before .before .before .before .before .before .before .before)) (Call.Transfer (c .before .before .before .before .before .before .before .before .before .before .before .before .before .args .t)) (c .before .before .transfer-reply .result) (replied (c .before .before)) (sym (c .before .is-done .ensures) ∙ not-true (c .before .is-done .result) (c .if1 .taken))
+returns c = refuses (book (c .before .before .before .before .before .before .before .before .before .before .before)) (Call.Transfer (c .before .before .before .before .before .before .before .before .before .before .before .args .t)) (c .before .before .refuse .result) (replied (c .before .before)) (sym (c .before .is-done .ensures) ∙ not-true (c .before .is-done .result) (c .if1 .taken))
 
 transfer-done-requires : tie.Need-transfer-done-requires
 unfolding book
@@ -50,14 +59,15 @@ same-length-2 : tie.Need-same-length-2
 same-length-2 c = search needs
 
 returns-2 : tie.Need-returns-2
-returns-2 c = c .before .before .transfer-done .ensures
+returns-2 c = search needs
 
 pub transfer-spec : {M : Type 1} → statement M
 transfer-spec =
     tie.close
     (tie.spec
-    counts-of-requires
+    framed-requires
     transfer-reply-requires
+    refuse-requires
     is-done-requires
     same-length
     returns

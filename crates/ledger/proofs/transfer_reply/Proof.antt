@@ -1,5 +1,3 @@
-use Rattle.rules.specs.Answer.{bookOf}
-use Rattle.frames.specs.Parts.{deskWith}
 use Rattle.ledger.proofs.Laws.{transfer-told}
 use borrow.Author.Needs.{needs}
 use Rattle.ledger.proofs.transfer_reply.Statement.{statement}
@@ -38,17 +36,11 @@ is-member-requires-2 c κs = search needs
 refuse-requires-6 : tie.Need-refuse-requires-6
 refuse-requires-6 c κs = search needs
 
-in-frame-requires : tie.Need-in-frame-requires
-in-frame-requires c κs = search needs
-
-refuse-requires-7 : tie.Need-refuse-requires-7
-refuse-requires-7 c κs = search needs
-
 returns : tie.Need-returns
 returns c =
-    let a = c .before .before .before .before .before .before .before .before .before .before .before .before .before .before .before .before .before .before .before .args in
-    rw (c .refuse7 .ensures, c .before .in-frame .ensures, c .before .before .refuse6 .ensures, c .before .before .before .is-member2 .ensures, c .before .before .before .before .is-member .ensures, c .before .before .before .before .before .refuse5 .ensures, c .before .before .before .before .before .before .is-asset .ensures, c .before .before .before .before .before .before .before .refuse4 .ensures, c .before .before .before .before .before .before .before .before .is-amount .ensures, c .before .before .before .before .before .before .before .before .before .refuse3 .ensures, c .before .before .before .before .before .before .before .before .before .before .before .refuse2 .ensures, c .before .before .before .before .before .before .before .before .before .before .before .before .before .balance-of .ensures, c .before .before .before .before .before .before .before .before .before .before .before .before .before .before .refuse .ensures)
-    (transfer-told (bookOf (deskWith (a .balances .now) (a .holders .now) (a .lifetime .now) (a .settled .now) (a .counts)) (a .inbox .now) (a .outbox .now) (a .history .now)) (a .t))
+    let a = c .before .before .before .before .before .before .before .before .before .before .before .before .before .args in
+    rw (c .refuse6 .ensures, c .before .is-member2 .ensures, c .before .before .is-member .ensures, c .before .before .before .refuse5 .ensures, c .before .before .before .before .is-asset .ensures, c .before .before .before .before .before .refuse4 .ensures, c .before .before .before .before .before .before .is-amount .ensures, c .before .before .before .before .before .before .before .refuse3 .ensures, c .before .before .before .before .before .before .before .before .before .refuse2 .ensures, c .before .before .before .before .before .before .before .before .before .before .before .balance-of .ensures, c .before .before .before .before .before .before .before .before .before .before .before .before .refuse .ensures)
+    (transfer-told (a .balances .now) (a .records) (a .t))
 
 pub transfer-reply-spec : {M : Type 1} → statement M
 transfer-reply-spec =
@@ -65,6 +57,4 @@ transfer-reply-spec =
     is-member-requires
     is-member-requires-2
     refuse-requires-6
-    in-frame-requires
-    refuse-requires-7
     returns)

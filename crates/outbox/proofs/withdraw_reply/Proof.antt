@@ -1,5 +1,3 @@
-use Rattle.rules.specs.Answer.{bookOf}
-use Rattle.frames.specs.Parts.{deskWith}
 use Rattle.outbox.proofs.Laws.{withdraw-told}
 use borrow.Author.Needs.{needs}
 use Rattle.outbox.proofs.withdraw_reply.Statement.{statement}
@@ -41,17 +39,11 @@ is-member-requires c κs = search needs
 refuse-requires-7 : tie.Need-refuse-requires-7
 refuse-requires-7 c κs = search needs
 
-in-frame-requires : tie.Need-in-frame-requires
-in-frame-requires c κs = search needs
-
-refuse-requires-8 : tie.Need-refuse-requires-8
-refuse-requires-8 c κs = search needs
-
 returns : tie.Need-returns
 returns c =
-    let a = c .before .before .before .before .before .before .before .before .before .before .before .before .before .before .before .before .before .before .before .before .args in
-    rw (c .refuse8 .ensures, c .before .in-frame .ensures, c .before .before .refuse7 .ensures, c .before .before .before .is-member .ensures, c .before .before .before .before .refuse6 .ensures, c .before .before .before .before .before .is-asset .ensures, c .before .before .before .before .before .before .refuse5 .ensures, c .before .before .before .before .before .before .before .is-amount .ensures, c .before .before .before .before .before .before .before .before .refuse4 .ensures, c .before .before .before .before .before .before .before .before .before .is-payee .ensures, c .before .before .before .before .before .before .before .before .before .before .refuse3 .ensures, c .before .before .before .before .before .before .before .before .before .before .before .before .balance-of .ensures, c .before .before .before .before .before .before .before .before .before .before .before .before .before .refuse2 .ensures, c .before .before .before .before .before .before .before .before .before .before .before .before .before .before .before .refuse .ensures)
-    (withdraw-told (bookOf (deskWith (a .balances .now) (a .holders .now) (a .lifetime .now) (a .settled .now) (a .counts)) (a .inbox .now) (a .outbox .now) (a .history .now)) (a .w))
+    let a = c .before .before .before .before .before .before .before .before .before .before .before .before .before .args in
+    rw (c .refuse7 .ensures, c .before .is-member .ensures, c .before .before .refuse6 .ensures, c .before .before .before .is-asset .ensures, c .before .before .before .before .refuse5 .ensures, c .before .before .before .before .before .is-amount .ensures, c .before .before .before .before .before .before .refuse4 .ensures, c .before .before .before .before .before .before .before .is-payee .ensures, c .before .before .before .before .before .before .before .before .refuse3 .ensures, c .before .before .before .before .before .before .before .before .before .before .balance-of .ensures, c .before .before .before .before .before .before .before .before .before .before .before .refuse2 .ensures, c .before .before .before .before .before .before .before .before .before .before .before .before .refuse .ensures)
+    (withdraw-told (a .balances .now) (a .payments) (a .records) (a .w))
 
 pub withdraw-reply-spec : {M : Type 1} → statement M
 withdraw-reply-spec =
@@ -69,6 +61,4 @@ withdraw-reply-spec =
     refuse-requires-6
     is-member-requires
     refuse-requires-7
-    in-frame-requires
-    refuse-requires-8
     returns)

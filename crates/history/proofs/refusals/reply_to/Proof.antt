@@ -1,22 +1,30 @@
-use mathlib.Core.Path.{ap, _∙_}
-use Rattle.rules.specs.Replies.{plain}
+use mathlib.Core.Path.{refl, ap, _∙_}
+use mathlib.Core.Bool.{Bool, not, cond}
+use Rattle.rules.specs.declared.answers.Answer.{Answer}
+use Rattle.rules.specs.declared.answers.Refusal.{Refusal}
+use Rattle.rules.specs.State.{Book, view}
 use Rattle.rules.specs.Answer.{bookOf}
-use Rattle.frames.specs.Parts.{deskWith}
-use Rattle.history.specs.Tracing.{traceNumberFor}
+use Rattle.history.proofs.Traced.{trace-told}
 use borrow.Author.Needs.{needs}
 use Rattle.history.proofs.refusals.reply_to.Statement.{statement}
 use Rattle.history.proofs.refusals.reply_to.Tie as tie
 
-counts-of-requires : tie.Need-counts-of-requires
-counts-of-requires c κs = search needs
+framed-requires : tie.Need-framed-requires
+framed-requires c κs = search needs
 
-trace-reply-requires : tie.Need-trace-reply-requires
-trace-reply-requires c κs = search needs
+history-reply-requires : tie.Need-history-reply-requires
+history-reply-requires c κs = search needs
+
+refuse-requires : tie.Need-refuse-requires
+refuse-requires c κs = search needs
 
 returns : tie.Need-returns
+unfolding view
 returns c =
-    let a = c .before .before .before .before .before .before .before .before .before .before .args in
-    c .trace-reply .ensures ∙ ap (λ k. plain (traceNumberFor (bookOf (deskWith (a .t1 .balances) (a .t1 .holders) (a .t1 .lifetime) (a .t1 .settled) k) (a .inbox .now) (a .outbox .now) (a .history .now)) (a .rows) (a .places) (a .n))) (c .before .before .before .before .before .before .counts-of .ensures)
+    let a = c .before .before .before .before .before .before .args in
+    let b : Book = bookOf (a .d) (a .inbox .now) (a .outbox .now) (a .history .now) in
+    trace-told b (a .rows) (a .places) (a .n) (c .refuse .result) (c .before .history-reply .result) (c .before .history-reply .ensures (view b) refl)
+    (c .refuse .ensures ∙ ap (λ (t : Bool). cond (not t) (Answer.Refused Refusal.BadBook) (c .before .history-reply .result)) (c .before .before .framed .ensures))
 
 pub reply-to-spec : {M : Type 1} → statement M
-reply-to-spec = tie.close (tie.spec counts-of-requires trace-reply-requires returns)
+reply-to-spec = tie.close (tie.spec framed-requires history-reply-requires refuse-requires returns)

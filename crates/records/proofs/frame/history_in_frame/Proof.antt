@@ -5,8 +5,8 @@ use native.Mathlib.Omega.{arith}
 use lib.ListN.{length}
 use borrow.Author.Tests.{not-true, not-false}
 use Rattle.rules.specs.Limits.{ceiling}
-use Rattle.rules.specs.State.{emptyState}
-use Rattle.rules.specs.History.{fits, emptyStanding, Standing as Replayed}
+use Rattle.rules.specs.State.{firstHolders, emptyState}
+use Rattle.rules.specs.History.{fits, standingFrom, Standing as Replayed}
 use Rattle.records.specs.Test.{standing, allUpTo}
 use Rattle.records.proofs.Following.{HistoryFrom, history-count, history-size, history-none, history-fails, history-goes, history-end, low-first, low-next, can-follow}
 use borrow.Author.Needs.{needs}
@@ -26,7 +26,7 @@ returns-2 : tie.Need-returns-2 Inv-loop μ-loop
 returns-2 c = history-size _ _ (c .before .if1 .left) (omega arith)
 
 loop-holds : tie.Need-loop-holds Inv-loop μ-loop
-unfolding emptyStanding emptyState
+unfolding standingFrom firstHolders emptyState
 loop-holds c = (search needs, search needs, omega arith, low-first, history-none _ _ (omega arith) (omega arith) _ refl)
 
 record-at-requires : tie.Need-record-at-requires Inv-loop μ-loop

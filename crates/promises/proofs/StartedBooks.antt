@@ -1,4 +1,4 @@
--- What a ready book answers: never 2 BadBook; and what it keeps, by its history.
+-- What a started book answers: never 2 BadBook; and what it keeps, by its history.
 use Prim.Native.Nat.{ℕ}
 use mathlib.Core.Path.{_≡_, refl, sym}
 use mathlib.Core.Logic.{_≢_}
@@ -12,7 +12,7 @@ use Rattle.rules.specs.Lists.{all}
 use Rattle.rules.specs.State.{State, Book, view, historyOf}
 use Rattle.rules.specs.Limits.{memberCount, assetCount}
 use Rattle.rules.specs.Replies.{toldOrigin, numberOf, told, smallest}
-use Rattle.rules.specs.Refusals.{refusals, traceRefusals, badMember, badAsset}
+use Rattle.rules.specs.Refusals.{table, refusals, fulls, traceRefusals, badMember, badAsset}
 use Rattle.rules.specs.Effects.{balance}
 use Rattle.rules.specs.Frame.{inFrame}
 use Rattle.rules.specs.History.{historyInFrame, provenanceOf}
@@ -23,13 +23,14 @@ use Rattle.rules.proofs.Tests.{true-within, not-holds, noneApplies, nothing-sma
 use Rattle.promises.specs.Promises.{InFrame, ByHistory}
 use Rattle.promises.proofs.Replies.{smallest-own, one-passes}
 use Rattle.rules.proofs.Accepts.{reply-with, reply-number}
+use Rattle.promises.proofs.Grants.{granted}
 use Rattle.promises.proofs.History.{provenanced}
-use Rattle.promises.proofs.Reached.{Ready}
+use Rattle.promises.specs.Started.{Started}
 
 -- ---- the frame
 -- no call's own table has the number 2
-no-two : (s : State) (c : Call) → all (λ n. not (eqb n 2)) (0 ∷ map (λ (r : ℕ × Bool). r .0) (refusals s c)) ≡ true
-unfolding all refusals traceRefusals numberOf
+no-two : (s : State) (c : Call) → all (λ n. not (eqb n 2)) (0 ∷ map (λ (r : ℕ × Bool). r .0) (table s c)) ≡ true
+unfolding all refusals fulls traceRefusals numberOf
 no-two s (Call.Deposit d) = refl
 no-two s (Call.Claim c) = refl
 no-two s (Call.Transfer t) = refl
@@ -60,21 +61,21 @@ never-two t rs e h =
     rw e
     (eqb-false (smallest rs) 2 (not-holds (eqb (smallest rs) 2) (one-passes (λ n. not (eqb n 2)) (smallest rs) (0 ∷ map (λ (r : ℕ × Bool). r .0) rs) (smallest-own rs) h)))
 
--- the history of a ready book passes its test
-history-passes : (b : Book) → Ready b → historyInFrame (historyOf b) ≡ true
+-- the history of a started book passes its test
+history-passes : (b : Book) → Started b → historyInFrame (historyOf b) ≡ true
 unfolding view
-history-passes b r = r .good .replayed .passes
+history-passes b r = r .agreed .replayed .passes
 
--- a ready book is in frame and never answers 2
-pub in-frame : (b : Book) → Ready b → InFrame b
+-- a started book is in frame and never answers 2
+pub in-frame : (b : Book) → Started b → InFrame b
 unfolding replyNumber traceAnswer traceNumber provenanceAnswer provenanceNumber traceRefusals told toldOrigin numberOf all
 in-frame b r =
     let h : historyInFrame (historyOf b) ≡ true = history-passes b r in
     let tested : badHistory b .1 ≡ false = rw (r .frame, h) in
     record {
       book = r .frame;
-      history = h;
-      noBadCall = λ c. rw (reply-number b c) (never-two (frameTest b c) (refusals (view b) c) (frame-passes b c (r .frame) h) (no-two (view b) c));
+      history = r .agreed .replayed .passes;
+      noBadCall = λ c. rw (reply-number b c) (never-two (frameTest b c) (table (view b) c) (frame-passes b c (r .frame) h) (no-two (view b) c));
       noBadTrace = λ work out n.
           rw (reply-with (traceNumber b work out n) (told (Answer.Traced (length (pieces (historyOf b) n)))) refl)
           (never-two (badHistory b) (traceRefusals (length work) (length out) (view b) n) tested refl);
@@ -83,7 +84,7 @@ in-frame b r =
     }
 
 -- the question for a provenance is answered with the balance
-asked : (b : Book) → Ready b → (m a : ℕ) → Within 1 memberCount m → Within 1 assetCount a
+asked : (b : Book) → Started b → (m a : ℕ) → Within 1 memberCount m → Within 1 assetCount a
     → provenanceAnswer b m a ≡ record { number = 0; values = balance (b .desk .balances) m a ∷ [] }
 unfolding provenanceAnswer toldOrigin
 asked b r m a hm ha = rw (done, provenance-is)
@@ -95,9 +96,9 @@ asked b r m a hm ha = rw (done, provenance-is)
     done = unfold provenanceNumber in nothing-smallest (badHistory b ∷ badMember m ∷ badAsset a ∷ []) none
 
     provenance-is : provenanceOf m a (historyOf b) ≡ balance (b .desk .balances) m a
-    provenance-is = unfold view in sym (provenanced (view b) (r .good .replayed) m a)
+    provenance-is = unfold view in sym (provenanced (view b) (r .agreed .replayed) m a)
 
--- what a ready book keeps is what its history says
-pub by-history : (b : Book) → Ready b → ByHistory b
+-- what a started book keeps is what its history says
+pub by-history : (b : Book) → Started b → ByHistory b
 unfolding view
-by-history b r = record { balances = provenanced (view b) (r .good .replayed); asked = asked b r; holders = r .good .granted; next = r .good .counts }
+by-history b r = record { balances = provenanced (view b) (r .agreed .replayed); asked = asked b r; holders = granted (view b) (r .agreed .replayed); next = r .agreed .counts }
