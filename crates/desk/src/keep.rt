@@ -2,6 +2,7 @@
 use crate::fields::is_asset;
 use crate::fields::is_member;
 use crate::fields::is_within;
+use rules::limits::ASSETS;
 ghost use mathlib.Core.Path.{_≡_};
 ghost use Rattle.desk.specs.Kept.{balanceSet, eightSet};
 
@@ -9,7 +10,7 @@ pub fn set_balance(balances: &mut [u64; 128], m: u64, a: u64, x: u64)
     ensures { λ _. ⌜ now (balances .exit) ≡ balanceSet (now (balances .entry)) m a x ⌝ }
 {
     if is_member(m) & is_asset(a) {
-        let at = ((m - 1) * 8 + (a - 1)) as usize;
+        let at = ((m - 1) * ASSETS + (a - 1)) as usize;
         balances[at] = x;
     }
 }

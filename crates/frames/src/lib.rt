@@ -1,6 +1,18 @@
 // The frame test, every clause of document 01 but the history's, on any desk and any three tables.
 use desk::fields::is_within;
 use rules::desk::Desk;
+use rules::limits::ASSETS;
+use rules::limits::CEILING;
+use rules::limits::HIGHEST_NEXT;
+use rules::limits::HIGHEST_NUMBER;
+use rules::limits::HIGHEST_PAYEE;
+use rules::limits::HISTORY_ROWS;
+use rules::limits::HISTORY_SIZE;
+use rules::limits::INBOX_ROWS;
+use rules::limits::INBOX_SIZE;
+use rules::limits::MEMBERS;
+use rules::limits::OUTBOX_ROWS;
+use rules::limits::OUTBOX_SIZE;
 use rules::rows::DepositNumber;
 use rules::rows::Nonce;
 ghost use mathlib.Core.Path.{_≡_};
@@ -82,9 +94,10 @@ fn counts_in_frame(c: Counts, size: usize) -> bool
 {
     let last = c.last;
     let next = c.next;
-    (size == 5120)
-        & ((c.records <= 1024)
-            & ((c.inflight <= c.payments) & ((last.0 <= 4294967295) & (next.0 <= 1024))))
+    (size == HISTORY_SIZE)
+        & ((c.records <= HISTORY_ROWS)
+            & ((c.inflight <= c.payments)
+                & ((last.0 <= HIGHEST_NUMBER) & (next.0 <= HIGHEST_NEXT))))
 }
 
 // The balances, the totals and the holders of the desk.
@@ -97,8 +110,8 @@ fn lists_in_frame(
     ensures { λ r. ⌜ r ≡ listsFrame (now (balances .entry)) (now (holders .entry)) (now (lifetime .entry)) (now (settled .entry)) ⌝ }
 {
     balances_in_frame(balances)
-        & (all_within(lifetime, 0, 1000000000000000)
-            & (all_within(settled, 0, 1000000000000000) & all_within(holders, 1, 16)))
+        & (all_within(lifetime, 0, CEILING)
+            & (all_within(settled, 0, CEILING) & all_within(holders, 1, MEMBERS)))
 }
 
 // The balances member by member, a member's eight together: eight tests in a row need no count.
@@ -109,7 +122,7 @@ fn balances_in_frame(b: &[u64; 128]) -> bool
     let mut m: usize = 0;
     while m < 16 {
         let at = m * 8;
-        if !all_within(&cells[at..at + 8], 0, 1000000000000000) {
+        if !all_within(&cells[at..at + 8], 0, CEILING) {
             return false;
         }
         m += 1;
@@ -135,10 +148,10 @@ fn all_within(s: &[u64], lo: u64, hi: u64) -> bool
 fn inbox_in_frame(t: &[u64], n: usize, last: u64) -> bool
     ensures { λ r. ⌜ r ≡ inboxFrame (now (t .entry)) n last ⌝ }
 {
-    if t.len() != 256 {
+    if t.len() != INBOX_SIZE {
         return false;
     }
-    if 64 < n {
+    if INBOX_ROWS < n {
         return false;
     }
     let mut i: usize = 0;
@@ -166,13 +179,13 @@ fn deposit_in_frame(
 ) -> bool
     ensures { λ r. ⌜ r ≡ (isMember member && (isAsset asset && isAmount amount)) && (ltb before number && leb number last) ⌝ }
 {
-    if !is_within(1, 16, member) {
+    if !is_within(1, MEMBERS, member) {
         return false;
     }
-    if !is_within(1, 8, asset) {
+    if !is_within(1, ASSETS, asset) {
         return false;
     }
-    if !is_within(1, 1000000000000000, amount) {
+    if !is_within(1, CEILING, amount) {
         return false;
     }
     if number <= before {
@@ -185,10 +198,10 @@ fn deposit_in_frame(
 fn outbox_in_frame(t: &[u64], n: usize, next: u64) -> bool
     ensures { λ r. ⌜ r ≡ outboxFrame (now (t .entry)) n next ⌝ }
 {
-    if t.len() != 128 {
+    if t.len() != OUTBOX_SIZE {
         return false;
     }
-    if 32 < n {
+    if OUTBOX_ROWS < n {
         return false;
     }
     let used = n as u64;
@@ -211,13 +224,13 @@ fn outbox_in_frame(t: &[u64], n: usize, next: u64) -> bool
 fn payment_in_frame(due: u64, asset: u64, amount: u64, payee: u64, nonce: u64) -> bool
     ensures { λ r. ⌜ r ≡ (isAsset asset && (isAmount amount && isPayee payee)) && eqb nonce due ⌝ }
 {
-    if !is_within(1, 8, asset) {
+    if !is_within(1, ASSETS, asset) {
         return false;
     }
-    if !is_within(1, 1000000000000000, amount) {
+    if !is_within(1, CEILING, amount) {
         return false;
     }
-    if !is_within(1, 65535, payee) {
+    if !is_within(1, HIGHEST_PAYEE, payee) {
         return false;
     }
     nonce == due

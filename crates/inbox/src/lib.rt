@@ -16,10 +16,17 @@ use rules::answers::Answered;
 use rules::answers::Refusal;
 use rules::calls::ClaimFields;
 use rules::desk::Desk;
+use rules::limits::CEILING;
+use rules::limits::DEPOSIT_WIDTH;
+use rules::limits::HIGHEST_NUMBER;
+use rules::limits::HISTORY_ROWS;
+use rules::limits::INBOX_ROWS;
 use rules::rows::Deposit;
 use rules::rows::DepositNumber;
+use rules::rows::Record;
 use tables::find_row;
-use tables::put_row;
+use tables::rows::put_deposit;
+use tables::rows::put_record;
 use tables::take_out;
 ghost use mathlib.Core.Path.{_≡_};
 ghost use Rattle.rules.specs.declared.calls.Call.{Call};
@@ -61,10 +68,7 @@ pub fn deposit_done(
     requires { ⌜ Accepted (bookOf d (now inbox) (now outbox) (now history)) (Call.Deposit x) ⌝ }
     ensures { λ r. ⌜ outcomeOf r (now (inbox .exit)) (now (outbox .entry)) (now (history .entry)) ≡ answer (bookOf d (now (inbox .entry)) (now (outbox .entry)) (now (history .entry))) (Call.Deposit x) ⌝ }
 {
-    let at = d.unclaimed * 4;
-    let number = x.number;
-    let row = [number.0, x.asset, x.amount, x.member];
-    put_row(inbox, at, &row);
+    put_deposit(inbox, d.unclaimed, x);
     let desk = deposited(d, x);
     Answered {
         answer: Answer::Done,
@@ -83,7 +87,7 @@ pub fn deposit_reply(
     ensures { λ r. ⌜ ((s : State) → s .outside .lifetime ≡ now (lifetime .entry) → s .outside .last ≡ last → length (s .inbox) ≡ unclaimed → told r ≡ plain (smallest (table s (Call.Deposit x)))) ⌝ }
 {
     let number = x.number;
-    let r = refuse(64 <= unclaimed, Refusal::InboxFull, Answer::Done);
+    let r = refuse(INBOX_ROWS <= unclaimed, Refusal::InboxFull, Answer::Done);
     let r = refuse(
         passes_ceiling(of_eight(lifetime, x.asset), x.amount),
         Refusal::Ceiling,
@@ -101,19 +105,19 @@ fn is_gap(last: u64, number: u64) -> bool
     ensures { λ r. ⌜ r ≡ isGap last number ⌝ }
 {
     if number <= last {
-        return 4294967295 < number;
+        return HIGHEST_NUMBER < number;
     }
-    (1 < number - last) | (4294967295 < number)
+    (1 < number - last) | (HIGHEST_NUMBER < number)
 }
 
 // Whether a total with the amount would pass the ceiling, on any two numbers.
 fn passes_ceiling(total: u64, amount: u64) -> bool
     ensures { λ r. ⌜ r ≡ passesCeiling total amount ⌝ }
 {
-    if 1000000000000000 < amount {
+    if CEILING < amount {
         return true;
     }
-    1000000000000000 - amount < total
+    CEILING - amount < total
 }
 
 // The number is used up, the asset's lifetime deposits grow, and one deposit more is unclaimed.
@@ -165,10 +169,15 @@ pub fn claim_done(
     let number = c.number;
     let row = [number.0, c.asset, c.amount, c.member];
     let place = find_row(inbox, d.unclaimed, &row);
-    take_out(inbox, 4, place, d.unclaimed);
-    let at = d.records * 5;
-    let entry = [1, c.asset, c.amount, c.member, number.0];
-    put_row(history, at, &entry);
+    take_out(inbox, DEPOSIT_WIDTH, place, d.unclaimed);
+    let entry = Record {
+        kind: 1,
+        asset: c.asset,
+        amount: c.amount,
+        first: c.member,
+        second: number.0,
+    };
+    put_record(history, d.records, entry);
     let desk = claimed(d, c);
     Answered {
         answer: Answer::Done,
@@ -190,7 +199,7 @@ pub fn is_unclaimed(inbox: &[u64], n: usize, c: ClaimFields) -> bool
 pub fn claim_reply(waits: bool, records: usize, c: ClaimFields) -> Answer
     ensures { λ r. ⌜ ((s : State) → any (matches c) (s .inbox) ≡ waits → length (s .history) ≡ records → told r ≡ plain (smallest (table s (Call.Claim c)))) ⌝ }
 {
-    let r = refuse(1024 <= records, Refusal::HistoryFull, Answer::Done);
+    let r = refuse(HISTORY_ROWS <= records, Refusal::HistoryFull, Answer::Done);
     let r = refuse(!waits, Refusal::NoSuchDeposit, r);
     let r = refuse(!is_amount(c.amount), Refusal::BadAmount, r);
     let r = refuse(!is_asset(c.asset), Refusal::BadAsset, r);

@@ -20,7 +20,9 @@ use rules::calls::GrantFields;
 use rules::calls::SignFields;
 use rules::calls::TransferFields;
 use rules::desk::Desk;
-use tables::put_row;
+use rules::limits::HISTORY_ROWS;
+use rules::rows::Record;
+use tables::rows::put_record;
 ghost use mathlib.Core.Path.{_≡_};
 ghost use Rattle.rules.specs.declared.calls.Call.{Call};
 ghost use Rattle.ledger.specs.After.{CanTransfer, CanGrant, transferredDesk, grantedDesk};
@@ -64,9 +66,14 @@ pub fn transfer_done(
     requires { ⌜ Accepted (bookOf d (now inbox) (now outbox) (now history)) (Call.Transfer t) ⌝ }
     ensures { λ r. ⌜ outcomeOf r (now (inbox .entry)) (now (outbox .entry)) (now (history .exit)) ≡ answer (bookOf d (now (inbox .entry)) (now (outbox .entry)) (now (history .entry))) (Call.Transfer t) ⌝ }
 {
-    let at = d.records * 5;
-    let row = [2, t.asset, t.amount, t.from, t.to];
-    put_row(history, at, &row);
+    let entry = Record {
+        kind: 2,
+        asset: t.asset,
+        amount: t.amount,
+        first: t.from,
+        second: t.to,
+    };
+    put_record(history, d.records, entry);
     let desk = transferred(d, t);
     Answered {
         answer: Answer::Done,
@@ -79,7 +86,7 @@ pub fn transfer_done(
 pub fn transfer_reply(balances: &[u64; 128], records: usize, t: TransferFields) -> Answer
     ensures { λ r. ⌜ ((s : State) → s .balances ≡ now (balances .entry) → length (s .history) ≡ records → told r ≡ plain (smallest (table s (Call.Transfer t)))) ⌝ }
 {
-    let r = refuse(1024 <= records, Refusal::HistoryFull, Answer::Done);
+    let r = refuse(HISTORY_ROWS <= records, Refusal::HistoryFull, Answer::Done);
     let r = refuse(
         balance_of(balances, t.from, t.asset) < t.amount,
         Refusal::Short,
@@ -135,9 +142,14 @@ pub fn grant_done(
     requires { ⌜ Accepted (bookOf d (now inbox) (now outbox) (now history)) (Call.Grant g) ⌝ }
     ensures { λ r. ⌜ outcomeOf r (now (inbox .entry)) (now (outbox .entry)) (now (history .exit)) ≡ answer (bookOf d (now (inbox .entry)) (now (outbox .entry)) (now (history .entry))) (Call.Grant g) ⌝ }
 {
-    let at = d.records * 5;
-    let row = [4, g.domain, 1, g.from, g.to];
-    put_row(history, at, &row);
+    let entry = Record {
+        kind: 4,
+        asset: g.domain,
+        amount: 1,
+        first: g.from,
+        second: g.to,
+    };
+    put_record(history, d.records, entry);
     let desk = granted(d, g);
     Answered {
         answer: Answer::Done,
@@ -150,7 +162,7 @@ pub fn grant_done(
 pub fn grant_reply(holders: &[u64; 8], records: usize, g: GrantFields) -> Answer
     ensures { λ r. ⌜ ((s : State) → s .holders ≡ now (holders .entry) → length (s .history) ≡ records → told r ≡ plain (smallest (table s (Call.Grant g)))) ⌝ }
 {
-    let r = refuse(1024 <= records, Refusal::HistoryFull, Answer::Done);
+    let r = refuse(HISTORY_ROWS <= records, Refusal::HistoryFull, Answer::Done);
     let r = refuse(of_eight(holders, g.domain) != g.from, Refusal::NotHolder, r);
     let r = refuse(g.from == g.to, Refusal::SameMember, r);
     let r = refuse(!is_domain(g.domain), Refusal::BadDomain, r);

@@ -17,9 +17,14 @@ use rules::answers::Answered;
 use rules::answers::Refusal;
 use rules::calls::WithdrawalFields;
 use rules::desk::Desk;
+use rules::limits::HISTORY_ROWS;
+use rules::limits::OUTBOX_ROWS;
+use rules::limits::PAYMENT_WIDTH;
 use rules::rows::Nonce;
 use rules::rows::Payment;
-use tables::put_row;
+use rules::rows::Record;
+use tables::rows::put_payment;
+use tables::rows::put_record;
 use tables::take_out;
 ghost use mathlib.Core.Path.{_≡_};
 ghost use Prim.Native.Nat.{_-_, _≤_};
@@ -68,12 +73,21 @@ pub fn withdraw_done(
     ensures { λ r. ⌜ outcomeOf r (now (inbox .entry)) (now (outbox .exit)) (now (history .exit)) ≡ answer (bookOf d (now (inbox .entry)) (now (outbox .entry)) (now (history .entry))) (Call.Withdraw w) ⌝ }
 {
     let nonce = d.next;
-    let queued = d.payments * 4;
-    let payment = [w.asset, w.amount, w.payee, nonce.0];
-    put_row(outbox, queued, &payment);
-    let at = d.records * 5;
-    let row = [3, w.asset, w.amount, w.member, w.payee];
-    put_row(history, at, &row);
+    let payment = Payment {
+        asset: w.asset,
+        amount: w.amount,
+        payee: w.payee,
+        nonce,
+    };
+    put_payment(outbox, d.payments, payment);
+    let entry = Record {
+        kind: 3,
+        asset: w.asset,
+        amount: w.amount,
+        first: w.member,
+        second: w.payee,
+    };
+    put_record(history, d.records, entry);
     let desk = withdrawn(d, w);
     Answered {
         answer: Answer::Done,
@@ -91,8 +105,8 @@ pub fn withdraw_reply(
 ) -> Answer
     ensures { λ r. ⌜ ((s : State) → s .balances ≡ now (balances .entry) → length (paymentsOf (s .outside)) ≡ payments → length (s .history) ≡ records → told r ≡ plain (smallest (table s (Call.Withdraw w)))) ⌝ }
 {
-    let r = refuse(1024 <= records, Refusal::HistoryFull, Answer::Done);
-    let r = refuse(32 <= payments, Refusal::OutboxFull, r);
+    let r = refuse(HISTORY_ROWS <= records, Refusal::HistoryFull, Answer::Done);
+    let r = refuse(OUTBOX_ROWS <= payments, Refusal::OutboxFull, r);
     let r = refuse(
         balance_of(balances, w.member, w.asset) < w.amount,
         Refusal::Short,
@@ -145,7 +159,7 @@ pub fn send_done(d: Desk, inbox: &[u64], outbox: &[u64], history: &[u64]) -> Ans
     requires { ⌜ Accepted (bookOf d (now inbox) (now outbox) (now history)) Call.Send ⌝ }
     ensures { λ r. ⌜ outcomeOf r (now (inbox .entry)) (now (outbox .entry)) (now (history .entry)) ≡ answer (bookOf d (now (inbox .entry)) (now (outbox .entry)) (now (history .entry))) Call.Send ⌝ }
 {
-    let at = d.inflight * 4;
+    let at = d.inflight * PAYMENT_WIDTH;
     let payment = payment_at(outbox, at);
     let sent = Answer::Sent(payment);
     let mut after = d;
@@ -203,7 +217,7 @@ pub fn settle_done(
     ensures { λ r. ⌜ outcomeOf r (now (inbox .entry)) (now (outbox .exit)) (now (history .entry)) ≡ answer (bookOf d (now (inbox .entry)) (now (outbox .entry)) (now (history .entry))) (Call.Settle n) ⌝ }
 {
     let payment = payment_at(outbox, 0);
-    take_out(outbox, 4, 0, d.payments);
+    take_out(outbox, PAYMENT_WIDTH, 0, d.payments);
     let desk = settled(d, payment);
     Answered {
         answer: Answer::Done,

@@ -8,6 +8,9 @@ use desk::fields::is_member;
 use desk::fields::is_payee;
 use desk::fields::is_within;
 use desk::fields::of_eight;
+use rules::limits::HIGHEST_NUMBER;
+use rules::limits::HISTORY_ROWS;
+use rules::limits::RECORD_WIDTH;
 use rules::rows::Record;
 ghost use mathlib.Core.Path.{_≡_};
 ghost use Prim.Native.Nat.{_+_, _-_, _≤_, _<_};
@@ -22,10 +25,10 @@ ghost use Rattle.records.specs.Test.{standing, Cell, CanFollow, historyF
 pub fn history_in_frame(history: &[u64], records: usize) -> bool
     ensures { λ r. ⌜ r ≡ historyFrame (now (history .entry)) records ⌝ }
 {
-    if 1024 < records {
+    if HISTORY_ROWS < records {
         return false;
     }
-    if history.len() / 5 < records {
+    if history.len() / RECORD_WIDTH < records {
         return false;
     }
     // What the replay carries from record to record, at first an empty book's: all balances 0, and member 1
@@ -55,7 +58,8 @@ fn fits(balances: &[u64; 128], holders: &[u64; 8], r: Record) -> bool
     match kind {
         1 => {
             is_asset(r.asset)
-                & (is_amount(r.amount) & (is_member(r.first) & is_within(1, 4294967295, r.second)))
+                & (is_amount(r.amount)
+                    & (is_member(r.first) & is_within(1, HIGHEST_NUMBER, r.second)))
         }
         2 => {
             is_asset(r.asset)

@@ -7,6 +7,7 @@ use rules::answers::Answer;
 use rules::answers::Refusal;
 use rules::calls::Call;
 use rules::calls::Line;
+use rules::limits::HISTORY_ROWS;
 ghost use mathlib.Core.Path.{_≡_};
 ghost use Rattle.rules.specs.Replies.{told, plain};
 ghost use Rattle.rules.specs.Answer.{replyNumber, bookOf};
@@ -123,7 +124,7 @@ fn table_reply<'a>(
         Call::Grant(x) => ledger::grant_reply(holders, counts.records, x),
         Call::Sign(x) => ledger::sign_reply(holders, x),
         Call::Trace(n) => {
-            let rows: usize = 1024;
+            let rows = HISTORY_ROWS;
             history::refusals::history_reply(history, counts.records, rows, rows, n)
         }
     }

@@ -3,4 +3,5 @@
 pub mod answers;
 pub mod calls;
 pub mod desk;
+pub mod limits;
 pub mod rows;

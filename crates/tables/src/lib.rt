@@ -1,6 +1,8 @@
 // Rows in a flat lent table: write a row, take one out, find one. The width is a parameter, so these
 // serve every table. No public function has a `requires`: where the rows do not lie within the table, it is
 // left as it was.
+pub mod rows;
+
 ghost use mathlib.Core.Path.{_≡_};
 ghost use Prim.Native.Nat.{_*_, _≤_, _<_};
 ghost use lib.Dec.{leb};

@@ -1,5 +1,4 @@
 use mathlib.Core.Path.{refl}
-use native.Mathlib.Omega.{arith}
 use Rattle.rules.specs.declared.calls.Call.{Call}
 use Rattle.rules.specs.declared.answers.Answer.{Answer}
 use Rattle.rules.specs.State.{Book}
@@ -31,17 +30,11 @@ find-row-requires c κs = search needs
 take-out-requires : tie.Need-take-out-requires
 take-out-requires c κs = search needs
 
-mul-at : tie.Need-mul-at
-mul-at c = omega (arith, can (c .before .before .before .before .before .before .before .before .before .before .before .before))
-
-slice-aggregate-put-row : tie.Need-slice-aggregate-put-row
-slice-aggregate-put-row c = search needs
-
-put-row-requires : tie.Need-put-row-requires
-put-row-requires c κs = search needs
+put-record-requires : tie.Need-put-record-requires
+put-record-requires c κs = search needs
 
 claimed-requires : tie.Need-claimed-requires
-claimed-requires c κs = can (c .before .before .before .before .before .before .before .before .before .before .before .before .before .before .before .before .before)
+claimed-requires c κs = can (c .before .before .before .before .before .before .before .before .before .before .before .before .before .before .before)
 
 same-length : tie.Need-same-length
 same-length c = search needs
@@ -52,11 +45,11 @@ same-length-2 c = search needs
 returns : tie.Need-returns
 unfolding book told doneAnswer piecesOf
 returns c =
-    let s : tie.Start = c .before .before .before .before .before .before .before .before .before .before .before .before .before .before .before .before .before .before in
+    let s : tie.Start = c .before .before .before .before .before .before .before .before .before .before .before .before .before .before .before .before in
     let b : Book = book s in
     let f : Framed b = framed b (accepted-frame b (Call.Claim (s .args .c)) (s .pre)) in
-    lays b (Call.Claim (s .args .c)) (s .pre) Answer.Done (c .claimed .result) (c .before .before .before .before .before .before .before .before .before .take-out .last .0) (s .args .outbox .now) (c .before .before .before .put-row .last .0) refl refl
-    (rw (c .claimed .ensures, c .before .before .before .before .before .before .before .before .before .take-out .ensures, c .before .before .before .put-row .ensures, c .before .before .before .before .before .before .before .before .before .before .before .find-row .ensures, place-is b (s .args .c) f) (claim-laid b (s .args .c) f (claim-place b (s .args .c) (s .pre)) (can s .records)))
+    lays b (Call.Claim (s .args .c)) (s .pre) Answer.Done (c .claimed .result) (c .before .before .before .before .before .before .before .take-out .last .0) (s .args .outbox .now) (c .before .before .before .put-record .last .0) refl refl
+    (rw (c .claimed .ensures, c .before .before .before .before .before .before .before .take-out .ensures, c .before .before .before .put-record .ensures, c .before .before .before .before .before .before .before .before .before .find-row .ensures, place-is b (s .args .c) f) (claim-laid b (s .args .c) f (claim-place b (s .args .c) (s .pre)) (can s .records)))
 
 pub claim-done-spec : {M : Type 1} → statement M
 claim-done-spec =
@@ -65,9 +58,7 @@ claim-done-spec =
     slice-aggregate-find-row
     find-row-requires
     take-out-requires
-    mul-at
-    slice-aggregate-put-row
-    put-row-requires
+    put-record-requires
     claimed-requires
     same-length
     same-length-2

@@ -1,5 +1,4 @@
 use mathlib.Core.Path.{refl}
-use native.Mathlib.Omega.{arith}
 use Rattle.rules.specs.declared.calls.Call.{Call}
 use Rattle.rules.specs.declared.answers.Answer.{Answer}
 use Rattle.rules.specs.State.{Book}
@@ -22,17 +21,11 @@ can : (c : tie.Start) → CanDeposit (c .args .d) (c .args .x)
 unfolding book
 can c = can-deposit (book c) (c .args .x) (c .pre)
 
-mul-at : tie.Need-mul-at
-mul-at c = omega (arith, can (c .before .before .before .before))
-
-slice-aggregate-put-row : tie.Need-slice-aggregate-put-row
-slice-aggregate-put-row c = search needs
-
-put-row-requires : tie.Need-put-row-requires
-put-row-requires c κs = search needs
+put-deposit-requires : tie.Need-put-deposit-requires
+put-deposit-requires c κs = search needs
 
 deposited-requires : tie.Need-deposited-requires
-deposited-requires c κs = can (c .before .before .before .before .before .before .before .before .before .before)
+deposited-requires c κs = can (c .before .before .before .before .before .before .before)
 
 same-length : tie.Need-same-length
 same-length c = search needs
@@ -40,18 +33,11 @@ same-length c = search needs
 returns : tie.Need-returns
 unfolding book told doneAnswer piecesOf
 returns c =
-    let s : tie.Start = c .before .before .before .before .before .before .before .before .before .before .before in
+    let s : tie.Start = c .before .before .before .before .before .before .before .before in
     let b : Book = book s in
-    lays b (Call.Deposit (s .args .x)) (s .pre) Answer.Done (c .deposited .result) (c .before .before .before .put-row .last .0) (s .args .outbox .now) (s .args .history .now) refl refl
-    (rw (c .deposited .ensures, c .before .before .before .put-row .ensures) (deposit-laid b (s .args .x) (framed b (accepted-frame b (Call.Deposit (s .args .x)) (s .pre))) (can s .unclaimed)))
+    lays b (Call.Deposit (s .args .x)) (s .pre) Answer.Done (c .deposited .result) (c .before .before .before .put-deposit .last .0) (s .args .outbox .now) (s .args .history .now) refl refl
+    (rw (c .deposited .ensures, c .before .before .before .put-deposit .ensures) (deposit-laid b (s .args .x) (framed b (accepted-frame b (Call.Deposit (s .args .x)) (s .pre))) (can s .unclaimed)))
 
 pub deposit-done-spec : {M : Type 1} → statement M
 deposit-done-spec =
-    tie.close
-    (tie.spec
-    mul-at
-    slice-aggregate-put-row
-    put-row-requires
-    deposited-requires
-    same-length
-    returns)
+    tie.close (tie.spec put-deposit-requires deposited-requires same-length returns)

@@ -1,5 +1,4 @@
 use mathlib.Core.Path.{refl}
-use native.Mathlib.Omega.{arith}
 use Rattle.rules.specs.declared.calls.Call.{Call}
 use Rattle.rules.specs.declared.answers.Answer.{Answer}
 use Rattle.rules.specs.State.{Book}
@@ -22,17 +21,11 @@ can : (c : tie.Start) → CanGrant (c .args .d) (c .args .g)
 unfolding book
 can c = can-grant (book c) (c .args .g) (c .pre)
 
-mul-at : tie.Need-mul-at
-mul-at c = omega (arith, can (c .before .before .before .before))
-
-slice-aggregate-put-row : tie.Need-slice-aggregate-put-row
-slice-aggregate-put-row c = search needs
-
-put-row-requires : tie.Need-put-row-requires
-put-row-requires c κs = search needs
+put-record-requires : tie.Need-put-record-requires
+put-record-requires c κs = search needs
 
 granted-requires : tie.Need-granted-requires
-granted-requires c κs = can (c .before .before .before .before .before .before .before .before .before)
+granted-requires c κs = can (c .before .before .before .before .before .before .before)
 
 same-length : tie.Need-same-length
 same-length c = search needs
@@ -40,19 +33,11 @@ same-length c = search needs
 returns : tie.Need-returns
 unfolding book told doneAnswer piecesOf
 returns c =
-    let a = c .before .before .before .before .before .before .before .before .before .before .args in
-    let p = c .before .before .before .before .before .before .before .before .before .before .pre in
-    let b : Book = book (c .before .before .before .before .before .before .before .before .before .before) in
-    lays b (Call.Grant (a .g)) p Answer.Done (c .granted .result) (a .inbox .now) (a .outbox .now) (c .before .before .before .put-row .last .0) refl refl
-    (rw (c .granted .ensures, c .before .before .before .put-row .ensures) (grant-laid b (a .g) (framed b (accepted-frame b (Call.Grant (a .g)) p)) (can (c .before .before .before .before .before .before .before .before .before .before) .records)))
+    let a = c .before .before .before .before .before .before .before .before .args in
+    let p = c .before .before .before .before .before .before .before .before .pre in
+    let b : Book = book (c .before .before .before .before .before .before .before .before) in
+    lays b (Call.Grant (a .g)) p Answer.Done (c .granted .result) (a .inbox .now) (a .outbox .now) (c .before .before .before .put-record .last .0) refl refl
+    (rw (c .granted .ensures, c .before .before .before .put-record .ensures) (grant-laid b (a .g) (framed b (accepted-frame b (Call.Grant (a .g)) p)) (can (c .before .before .before .before .before .before .before .before) .records)))
 
 pub grant-done-spec : {M : Type 1} → statement M
-grant-done-spec =
-    tie.close
-    (tie.spec
-    mul-at
-    slice-aggregate-put-row
-    put-row-requires
-    granted-requires
-    same-length
-    returns)
+grant-done-spec = tie.close (tie.spec put-record-requires granted-requires same-length returns)

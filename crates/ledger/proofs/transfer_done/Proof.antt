@@ -1,5 +1,4 @@
 use mathlib.Core.Path.{refl}
-use native.Mathlib.Omega.{arith}
 use Rattle.rules.specs.declared.calls.Call.{Call}
 use Rattle.rules.specs.declared.answers.Answer.{Answer}
 use Rattle.rules.specs.State.{Book}
@@ -22,17 +21,11 @@ can : (c : tie.Start) → CanTransfer (c .args .d) (c .args .t)
 unfolding book
 can c = can-transfer (book c) (c .args .t) (c .pre)
 
-mul-at : tie.Need-mul-at
-mul-at c = omega (arith, can (c .before .before .before .before))
-
-slice-aggregate-put-row : tie.Need-slice-aggregate-put-row
-slice-aggregate-put-row c = search needs
-
-put-row-requires : tie.Need-put-row-requires
-put-row-requires c κs = search needs
+put-record-requires : tie.Need-put-record-requires
+put-record-requires c κs = search needs
 
 transferred-requires : tie.Need-transferred-requires
-transferred-requires c κs = can (c .before .before .before .before .before .before .before .before .before)
+transferred-requires c κs = can (c .before .before .before .before .before .before .before)
 
 same-length : tie.Need-same-length
 same-length c = search needs
@@ -40,19 +33,12 @@ same-length c = search needs
 returns : tie.Need-returns
 unfolding book told doneAnswer piecesOf
 returns c =
-    let a = c .before .before .before .before .before .before .before .before .before .before .args in
-    let p = c .before .before .before .before .before .before .before .before .before .before .pre in
-    let b : Book = book (c .before .before .before .before .before .before .before .before .before .before) in
-    lays b (Call.Transfer (a .t)) p Answer.Done (c .transferred .result) (a .inbox .now) (a .outbox .now) (c .before .before .before .put-row .last .0) refl refl
-    (rw (c .transferred .ensures, c .before .before .before .put-row .ensures) (transfer-laid b (a .t) (framed b (accepted-frame b (Call.Transfer (a .t)) p)) (can (c .before .before .before .before .before .before .before .before .before .before) .records)))
+    let a = c .before .before .before .before .before .before .before .before .args in
+    let p = c .before .before .before .before .before .before .before .before .pre in
+    let b : Book = book (c .before .before .before .before .before .before .before .before) in
+    lays b (Call.Transfer (a .t)) p Answer.Done (c .transferred .result) (a .inbox .now) (a .outbox .now) (c .before .before .before .put-record .last .0) refl refl
+    (rw (c .transferred .ensures, c .before .before .before .put-record .ensures) (transfer-laid b (a .t) (framed b (accepted-frame b (Call.Transfer (a .t)) p)) (can (c .before .before .before .before .before .before .before .before) .records)))
 
 pub transfer-done-spec : {M : Type 1} → statement M
 transfer-done-spec =
-    tie.close
-    (tie.spec
-    mul-at
-    slice-aggregate-put-row
-    put-row-requires
-    transferred-requires
-    same-length
-    returns)
+    tie.close (tie.spec put-record-requires transferred-requires same-length returns)
