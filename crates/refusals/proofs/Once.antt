@@ -1,12 +1,8 @@
 -- Any two results that a public function's contract allows coincide (`Coincide` of `rules`).
 use Rattle.rules.specs.Coincide.{Coincide}
 use Rattle.rules.proofs.Coincide.{value, reply}
-use Rattle.refusals.proofs.line_reply as line-reply
 use Rattle.refusals.proofs.call_reply as call-reply
 use Rattle.refusals.proofs.says_all as says-all
-
-pub line-reply-once : Coincide line-reply.ended (λ M 𝓤. line-reply.clauses 𝓤)
-line-reply-once w x g = reply w
 
 pub call-reply-once : Coincide call-reply.ended (λ M 𝓤. call-reply.clauses 𝓤)
 call-reply-once w x g = reply w

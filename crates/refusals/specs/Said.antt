@@ -1,24 +1,16 @@
--- The number of a line's reply, and when the number is all that the line comes to.
+-- When the number is all that a call comes to, and what its table of refusals answers.
 use Prim.Native.Nat.{ℕ}
 use mathlib.Core.Path.{_≡_}
 use mathlib.Core.Bool.{Bool, true, false, not, _||_}
 use mathlib.Core.List.{List}
 use Rattle.rules.specs.declared.calls.Call.{Call}
-use Rattle.rules.specs.declared.calls.Line.{Line}
-use Rattle.rules.specs.declared.answers.Refusal.{Refusal}
 use Rattle.rules.specs.declared.answers.Answer.{Answer}
-use Rattle.rules.specs.State.{Book}
-use Rattle.rules.specs.Replies.{numberOf, told, plain}
+use Rattle.rules.specs.Replies.{told, plain}
 use Rattle.rules.specs.Frame.{inFrame}
 use Rattle.rules.specs.Answer.{replyNumber, bookOf}
 use Rattle.frames.specs.declared.Counts.{Counts}
 use Rattle.frames.specs.Parts.{deskWith}
 use Rattle.desk.specs.Parts.{isDone}
-
--- the reply number that a line gets
-unfoldable pub lineReplyNumber : Book → Line → ℕ
-lineReplyNumber b (Line.Reads c) = replyNumber b c
-lineReplyNumber b Line.Malformed = numberOf Refusal.Malformed
 
 -- whether a call is a sign: "allowed exactly if the member holds the domain. Changes nothing."
 unfoldable pub isSign : Call → Bool
@@ -32,10 +24,9 @@ isSign (Call.Grant g) = false
 isSign (Call.Sign g) = true
 isSign (Call.Trace n) = false
 
--- whether the number is all that a line comes to, so that nothing is changed, handed out or told beside it: "a refusal returns its number alone; desk and lent tables are left as found", and a sign changes nothing
-unfoldable pub saysAll : Line → Answer → Bool
-saysAll (Line.Reads c) a = not (isDone a) || isSign c
-saysAll Line.Malformed a = true
+-- whether the number is all that a call comes to, so that nothing is changed, handed out or told beside it: "a refusal returns its number alone; desk and lent tables are left as found", and a sign changes nothing
+unfoldable pub saysAll : Call → Answer → Bool
+saysAll c a = not (isDone a) || isSign c
 
 -- what a call's table of refusals answers, handed the parts of a book that the tables read: of every book in frame that has these parts, the number that the call gets
 abbrev pub TableTold : List ℕ → List ℕ → List ℕ → Counts → List ℕ → List ℕ → List ℕ → Call → Answer → Type 0

@@ -1,51 +1,17 @@
-// What a line is refused for: every call's table of refusals, asked before anything is written. The desk's
-// lists are lent, so that a line whose number is all that it comes to copies no desk.
+// What a call is refused for: every call's table of refusals, asked before anything is written. The desk's
+// lists are lent, so that a call whose number is all that it comes to copies no desk.
 use desk::answers::is_done;
 use frames::Counts;
 use frames::in_frame;
 use rules::answers::Answer;
 use rules::answers::Refusal;
 use rules::calls::Call;
-use rules::calls::Line;
 use rules::limits::HISTORY_ROWS;
 ghost use mathlib.Core.Path.{_≡_};
 ghost use Rattle.rules.specs.Replies.{told, plain};
 ghost use Rattle.rules.specs.Answer.{replyNumber, bookOf};
 ghost use Rattle.frames.specs.Parts.{deskWith};
-ghost use Rattle.refusals.specs.Said.{lineReplyNumber, isSign, saysAll, TableTold};
-
-// The reply number that a line gets: 1 Malformed, or what its call's table of refusals comes to.
-pub fn line_reply<'a>(
-    balances: &'a [u64; 128],
-    holders: &'a [u64; 8],
-    lifetime: &'a [u64; 8],
-    settled: &'a [u64; 8],
-    counts: Counts,
-    inbox: &[u64],
-    outbox: &[u64],
-    history: &[u64],
-    l: Line,
-) -> Answer
-    ensures { λ r. ⌜ told r ≡ plain (lineReplyNumber (bookOf (deskWith (now (balances .entry)) (now (holders .entry)) (now (lifetime .entry)) (now (settled .entry)) counts) (now (inbox .entry)) (now (outbox .entry)) (now (history .entry))) l) ⌝ }
-{
-    match l {
-        Line::Reads(c) => call_reply(
-            balances,
-            holders,
-            lifetime,
-            settled,
-            counts,
-            inbox,
-            outbox,
-            history,
-            c,
-        ),
-        Line::Malformed => {
-            let why = Refusal::Malformed;
-            Answer::Refused(why)
-        }
-    }
-}
+ghost use Rattle.refusals.specs.Said.{isSign, saysAll, TableTold};
 
 // The reply number that a call gets: 2 BadBook where the book is out of frame, which is tested here and once, or what
 // its table of refusals comes to.
@@ -130,15 +96,12 @@ fn table_reply<'a>(
     }
 }
 
-// Whether the number is all that the line comes to: where it is refused, and where it is a sign, nothing is
+// Whether the number is all that the call comes to: where it is refused, and where it is a sign, nothing is
 // changed, handed out or told beside it.
-pub fn says_all(l: Line, a: Answer) -> bool
-    ensures { λ r. ⌜ r ≡ saysAll l a ⌝ }
+pub fn says_all(c: Call, a: Answer) -> bool
+    ensures { λ r. ⌜ r ≡ saysAll c a ⌝ }
 {
-    match l {
-        Line::Reads(c) => !is_done(a) | is_sign(c),
-        Line::Malformed => true,
-    }
+    !is_done(a) | is_sign(c)
 }
 
 fn is_sign(c: Call) -> bool

@@ -7,7 +7,7 @@ use lib.ListN.{length, take}
 use lib.Seq.{length-take-le}
 use Rattle.rules.specs.Coincide.{Two, Coincide, AnyTwo}
 use Rattle.rules.proofs.Told.{once}
-use Rattle.rules.proofs.Coincide.{one, joined, from-each, both}
+use Rattle.rules.proofs.Coincide.{both}
 use Rattle.pages.specs.Writing.{Page, page}
 use Rattle.pages.proofs.Once.{page-once}
 use Rattle.runner.specs.declared.running.Running.{Running}
@@ -16,12 +16,11 @@ use Rattle.runner.specs.Machine.{Machine}
 use Rattle.runner.specs.Running.{machineOf}
 use Rattle.runner.specs.Feeding.{Ready, Closes}
 use Rattle.runner.specs.Kept.{Kept, kept, RunSome}
-use Rattle.runner.proofs.running.answer_line as answer-line
 use Rattle.runner.proofs.feed.run_some as run-some
 use Rattle.runner.proofs.feed.close as close
 use Rattle.runner.proofs.start.start as start
 
--- ---- answer_line: the desk, tally and line number, every number of the three tables, the place and every byte of the page
+-- ---- the desk, tally and line number, every number of the three tables, and the bytes that are held
 machine-once : (m : Machine) {r r′ : Running} {i i′ o o′ h h′ held held′ : List ℕ} → machineOf r i o h held ≡ m → machineOf r′ i′ o′ h′ held′ ≡ m
     → (r ≡ r′) × (i ≡ i′) × (o ≡ o′) × (h ≡ h′) × (held ≡ held′)
 machine-once m {r} {r′} e f =
@@ -34,13 +33,6 @@ machine-once m {r} {r′} e f =
       ap (λ (x : Machine). x .book .history) (e ∙ sym f),
       ap (λ (x : Machine). x .held) (e ∙ sym f),
     )
-
-pub answer-line-once : Coincide answer-line.ended (λ M 𝓤. answer-line.clauses 𝓤)
-answer-line-once w x g =
-    from-each w (joined w (one w) (joined w (one w) (one w))) (joined w (one w) (joined w (one w) (one w))) (λ p q.
-    let m = machine-once _ (p .0) (q .0) in
-    let k = page-once _ (p .1 .0) (q .1 .0) in
-    (λ j. record { running = m .0 j; at = k .0 j }, λ j. (tt, (m .1 j, (m .2 j, (m .3 j, (k .1 j, (tt, (tt, tt)))))))))
 
 -- ---- run_some: all that is kept, every number of the three tables, every byte of the page, and of the held bytes those that belong to the line. Left open: the bytes of that buffer past them, on which no contract depends; and how far it came, `next`, but that it moves where there is room (Moves): it stops where the page has no room for the longest reply. Whatever `next` is, it fixes the rest, and the bytes from there on are fed by the next call
 pub record SameKept (k k′ : Kept) : Type 0 where

@@ -5,14 +5,19 @@ use mathlib.Core.Bool.{Bool, true, not}
 use lib.Dec.{eqb}
 use Rattle.rules.specs.Lists.{all}
 use Rattle.rules.specs.Lines.{lineFeed}
+use Rattle.rules.specs.declared.desk.Desk.{Desk}
 use Rattle.runner.specs.declared.feed.Fed.{Fed}
+use Rattle.runner.specs.declared.running.Written.{Written}
 use mathlib.Core.List.{List, _++_}
 use lib.ListN.{length, getD, take}
 use Rattle.rules.specs.State.{deskOf, emptyState}
 use Rattle.pages.specs.Writing.{Page, put}
 use Rattle.runner.specs.declared.feed.Feeding.{Feeding}
 use Rattle.runner.specs.Machine.{Machine, closing}
-use Rattle.runner.specs.Running.{machineOf, Counted}
+use Rattle.runner.specs.Running.{machineOf, runningOf, Counted}
+
+abbrev pub feedingOf : Desk → Written → ℕ → Feeding
+feedingOf d w held = record { running = runningOf d w; held = held; at = w .at }
 
 -- of the bytes that are held the first belong to the line that came so far
 abbrev pub fedMachine : Feeding → List ℕ → List ℕ → List ℕ → List ℕ → Machine

@@ -1,19 +1,17 @@
 // The input line after line, however it is cut into reads.
+use crate::running::Heard;
 use crate::running::Running;
-use crate::running::answer_line;
+use crate::running::Written;
+use crate::running::answer_call;
+use crate::running::answer_said;
+use crate::running::hear;
 use frames::counts_of;
 use lines::read::read_line;
-use refusals::line_reply;
-use refusals::says_all;
 use replies::put_end;
-use replies::put_reply_line;
-use replies::reply_number;
 use rules::answers::Answer;
 use rules::answers::Refusal;
-use rules::answers::Tally;
 use rules::calls::Line;
 use rules::desk::Desk;
-use steps::tally::one_more;
 ghost use Prim.Native.Nat.{_+_, _-_, _≤_};
 ghost use lib.Dec.{leb};
 ghost use mathlib.Core.Path.{_≡_};
@@ -21,12 +19,8 @@ ghost use lib.ListN.{length, take};
 ghost use mathlib.Core.Bool.{not, true};
 ghost use Rattle.rules.specs.Lists.{all};
 ghost use Rattle.rules.specs.Lines.{readLine};
-ghost use Rattle.rules.specs.Replies.{told};
-ghost use Rattle.rules.specs.Transcript.{tallied};
-ghost use Rattle.pages.specs.Writing.{page, put};
-ghost use Rattle.replies.specs.Writing.{replyLine};
 ghost use Rattle.runner.specs.Machine.{held-with, holds};
-ghost use Rattle.runner.specs.Feeding.{Ready, noFeed, NextFeed};
+ghost use Rattle.runner.specs.Feeding.{feedingOf, Ready, noFeed, NextFeed};
 ghost use Rattle.runner.specs.Kept.{kept, RunSome, Closed};
 
 // What is kept between reads: what is kept between lines, how many bytes of a line are held, and the
@@ -156,29 +150,30 @@ pub fn run_some(
 {
     let run = f.running;
     let mut desk = run.desk;
-    let mut tally = run.tally;
-    let mut line = run.line;
+    let tally = run.tally;
+    let mut w = Written {
+        tally,
+        line: run.line,
+        at: f.at,
+    };
     let mut held = f.held;
-    let mut at = f.at;
     let mut k: usize = 0;
     while k < chunk.len() {
-        if !has_room(out.len(), at) {
-            return so_far(desk, tally, line, held, at, k);
+        if !has_room(out.len(), w.at) {
+            return so_far(desk, w, held, k);
         }
-        if 100000 < line {
-            return so_far(desk, tally, line, held, at, chunk.len());
+        if 100000 < w.line {
+            return so_far(desk, w, held, chunk.len());
         }
         let rest = &chunk[k..];
         let n = feed_at(rest);
         if rest.len() <= n {
             held = hold_part(hold, held, rest);
-            return so_far(desk, tally, line, held, at, chunk.len());
+            return so_far(desk, w, held, chunk.len());
         }
         let l = whole_line(hold, held, &rest[..n]);
-        // What refuses the line is asked first, and the desk's lists are lent: where the number is all that
-        // the line comes to, the desk stays where it lies.
         let counts = counts_of(desk);
-        let reply = line_reply(
+        let heard = hear(
             &desk.balances,
             &desk.holders,
             &desk.lifetime,
@@ -189,34 +184,35 @@ pub fn run_some(
             history,
             l,
         );
-        if says_all(l, reply) {
-            let w = answer_said(tally, line, out, at, reply);
-            tally = w.tally;
-            line += 1;
-            at = w.at;
-            held = 0;
-            k += n + 1;
-            continue;
+        match heard {
+            Heard::Said(a) => w = answer_said(w, out, a),
+            Heard::Due(c) => {
+                let after = answer_call(desk, inbox, outbox, history, out, w, c);
+                desk = after.desk;
+                w = after.written;
+            }
         }
-        let run = Running { desk, tally, line };
-        let w = answer_line(run, inbox, outbox, history, out, at, l);
-        let next = w.running;
-        desk = next.desk;
-        tally = next.tally;
-        line = next.line;
-        at = w.at;
         held = 0;
         k += n + 1;
     }
-    so_far(desk, tally, line, held, at, k)
+    so_far(desk, w, held, k)
 }
 
 // What is kept so far, and how far it came.
-fn so_far(desk: Desk, tally: Tally, line: u64, held: usize, at: usize, next: usize) -> Fed
-    ensures { λ r. ⌜ r ≡ record { feeding = record { running = record { desk = desk; tally = tally; line = line }; held = held; at = at }; next = next } ⌝ }
+fn so_far(desk: Desk, w: Written, held: usize, next: usize) -> Fed
+    ensures { λ r. ⌜ r ≡ record { feeding = feedingOf desk w held; next = next } ⌝ }
 {
-    let running = Running { desk, tally, line };
-    let feeding = Feeding { running, held, at };
+    let tally = w.tally;
+    let running = Running {
+        desk,
+        tally,
+        line: w.line,
+    };
+    let feeding = Feeding {
+        running,
+        held,
+        at: w.at,
+    };
     Fed { feeding, next }
 }
 
@@ -230,25 +226,6 @@ fn has_room(len: usize, at: usize) -> bool
     45000 <= len - at
 }
 
-// The tally after a line whose reply is all that it comes to, and the place up to which the output is
-// written.
-struct Said {
-    tally: Tally,
-    at: usize,
-}
-
-// The reply of a line that leaves the book as it was: so no desk is handed on.
-fn answer_said(tally: Tally, line: u64, out: &mut [u8], at: usize, a: Answer) -> Said
-    requires { ⌜ tally .done ≤ 100000 ⌝ }
-    requires { ⌜ tally .other ≤ 100000 ⌝ }
-    ensures { λ r. ⌜ r .tally ≡ tallied tally (told a .number) ⌝ }
-    ensures { λ r. ⌜ page (now (out .exit)) (r .at) ≡ put (page (now (out .entry)) at) (replyLine line (told a)) ⌝ }
-{
-    let p = put_reply_line(out, at, line, a);
-    let t = one_more(tally, reply_number(a));
-    Said { tally: t, at: p }
-}
-
 // At the end of the input: "An unfinished last line is Malformed", and last comes `end`.
 pub fn close(f: Feeding, hold: &[u8], out: &mut [u8]) -> usize
     requires { ⌜ Ready f (now hold) ⌝ }
@@ -256,17 +233,22 @@ pub fn close(f: Feeding, hold: &[u8], out: &mut [u8]) -> usize
     ensures { λ r. ⌜ Closed f (now (hold .entry)) (now (out .entry)) (now (out .exit)) r ⌝ }
 {
     let run = f.running;
-    let t = run.tally;
+    let tally = run.tally;
     let n = f.held;
     if 100000 < run.line {
-        return put_end(out, f.at, t);
+        return put_end(out, f.at, tally);
     }
     if n == 0 {
-        return put_end(out, f.at, t);
+        return put_end(out, f.at, tally);
     }
+    let w = Written {
+        tally,
+        line: run.line,
+        at: f.at,
+    };
     let why = Refusal::Malformed;
     let answer = Answer::Refused(why);
-    let w = answer_said(t, run.line, out, f.at, answer);
-    let told = w.tally;
-    put_end(out, w.at, told)
+    let told = answer_said(w, out, answer);
+    let raised = told.tally;
+    put_end(out, told.at, raised)
 }

@@ -1,17 +1,28 @@
-// One line in, one line out: the book is stepped, the tally raised once, and the reply written.
+// One line in, one line out: a line that leaves the book as it was is told, a call that nothing refuses is stepped, and
+// the tally is raised once.
+use frames::Counts;
+use refusals::call_reply;
+use refusals::says_all;
+use replies::put_reply_line;
+use replies::reply_number;
+use rules::answers::Answer;
+use rules::answers::Refusal;
 use rules::answers::Tally;
+use rules::calls::Call;
 use rules::calls::Line;
 use rules::desk::Desk;
 use steps::counted::tallied_step;
-ghost use Prim.Native.Nat.{_≤_};
+use steps::tally::raised;
+ghost use Prim.Native.Nat.{_+_};
 ghost use mathlib.Core.Path.{_≡_};
-ghost use mathlib.Core.List.{[]};
-ghost use Rattle.rules.specs.Answer.{bookOf};
-ghost use Rattle.rules.specs.Transcript.{replyText};
+ghost use Rattle.rules.specs.Answer.{bookOf, answer};
+ghost use Rattle.rules.specs.Facts.{Accepted};
+ghost use Rattle.rules.specs.Replies.{told};
+ghost use Rattle.rules.specs.Transcript.{tallied};
+ghost use Rattle.frames.specs.Parts.{deskWith};
 ghost use Rattle.pages.specs.Writing.{page, put};
-ghost use Rattle.steps.specs.Step.{LineAccepted};
-ghost use Rattle.runner.specs.Machine.{outcomeFor, afterLine};
-ghost use Rattle.runner.specs.Running.{machineOf, Counted};
+ghost use Rattle.replies.specs.Writing.{replyLine};
+ghost use Rattle.runner.specs.Running.{Few, Hears, Leaves};
 
 // What is kept between lines, beside the lent tables: the desk, the tally, and the number of the line
 // that comes next.
@@ -21,52 +32,111 @@ pub struct Running {
     pub line: u64,
 }
 
-// The same after a line, and the place up to which the output is written.
+// What stands written so far: the tally of the replies, the number of the line that comes next, and the place up to
+// which the output is written.
 pub struct Written {
-    pub running: Running,
+    pub tally: Tally,
+    pub line: u64,
     pub at: usize,
 }
 
-// "For each line it writes line number and reply number", then the values and the pieces, if any: of a line
-// whose call nothing refuses.
-pub fn answer_line(
-    run: Running,
+// What a line comes to: a reply that is all, or a call that nothing refuses and that is still to be done.
+pub enum Heard {
+    Said(Answer),
+    Due(Call),
+}
+
+// What refuses a line is asked first, and the desk's lists are lent: where the number is all that the line comes to,
+// the desk stays where it lies.
+pub(crate) fn hear<'a>(
+    balances: &'a [u64; 128],
+    holders: &'a [u64; 8],
+    lifetime: &'a [u64; 8],
+    settled: &'a [u64; 8],
+    counts: Counts,
+    inbox: &[u64],
+    outbox: &[u64],
+    history: &[u64],
+    l: Line,
+) -> Heard
+    ensures { λ r. ⌜ Hears (bookOf (deskWith (now (balances .entry)) (now (holders .entry)) (now (lifetime .entry)) (now (settled .entry)) counts) (now (inbox .entry)) (now (outbox .entry)) (now (history .entry))) l r ⌝ }
+{
+    match l {
+        Line::Malformed => {
+            let why = Refusal::Malformed;
+            let answer = Answer::Refused(why);
+            Heard::Said(answer)
+        }
+        Line::Reads(c) => {
+            let reply = call_reply(
+                balances,
+                holders,
+                lifetime,
+                settled,
+                counts,
+                inbox,
+                outbox,
+                history,
+                c,
+            );
+            if says_all(c, reply) {
+                Heard::Said(reply)
+            } else {
+                Heard::Due(c)
+            }
+        }
+    }
+}
+
+// The reply of a line that leaves the book as it was: so no desk is handed on.
+pub(crate) fn answer_said(w: Written, out: &mut [u8], a: Answer) -> Written
+    requires { ⌜ Few w ⌝ }
+    ensures { λ r. ⌜ r .tally ≡ tallied (w .tally) (told a .number) ⌝ }
+    ensures { λ r. ⌜ r .line ≡ w .line + 1 ⌝ }
+    ensures { λ r. ⌜ page (now (out .exit)) (r .at) ≡ put (page (now (out .entry)) (w .at)) (replyLine (w .line) (told a)) ⌝ }
+{
+    let before = w.tally;
+    let p = put_reply_line(out, w.at, w.line, a);
+    let t = raised(before, reply_number(a));
+    Written {
+        tally: t,
+        line: w.line + 1,
+        at: p,
+    }
+}
+
+// What a call leaves, beside the lent tables: the desk, and what stands written.
+pub struct After {
+    pub desk: Desk,
+    pub written: Written,
+}
+
+// "For each line it writes line number and reply number", then the values and the pieces, if any: of a call that
+// nothing refuses.
+pub(crate) fn answer_call(
+    d: Desk,
     inbox: &mut [u64],
     outbox: &mut [u64],
     history: &mut [u64],
     out: &mut [u8],
-    at: usize,
-    l: Line,
-) -> Written
-    requires { ⌜ Counted run ⌝ }
-    requires { ⌜ run .line ≤ 100000 ⌝ }
-    requires { ⌜ LineAccepted (bookOf (run .desk) (now inbox) (now outbox) (now history)) l ⌝ }
-    ensures { λ r. ⌜ machineOf (r .running) (now (inbox .exit)) (now (outbox .exit)) (now (history .exit)) [] ≡ afterLine (machineOf run (now (inbox .entry)) (now (outbox .entry)) (now (history .entry)) []) (outcomeFor (machineOf run (now (inbox .entry)) (now (outbox .entry)) (now (history .entry)) []) l) ⌝ }
-    ensures { λ r. ⌜ page (now (out .exit)) (r .at) ≡ put (page (now (out .entry)) at) (replyText (run .line) (outcomeFor (machineOf run (now (inbox .entry)) (now (outbox .entry)) (now (history .entry)) []) l)) ⌝ }
-    ensures { λ r. ⌜ Counted (r .running) ⌝ }
+    w: Written,
+    c: Call,
+) -> After
+    requires { ⌜ Few w ⌝ }
+    requires { ⌜ Accepted (bookOf d (now inbox) (now outbox) (now history)) c ⌝ }
+    ensures { λ r. ⌜ Leaves w (page (now (out .entry)) (w .at)) (answer (bookOf d (now (inbox .entry)) (now (outbox .entry)) (now (history .entry))) c) r (now (inbox .exit)) (now (outbox .exit)) (now (history .exit)) (now (out .exit)) ⌝ }
 {
-    let before = run.tally;
-    let found = tallied_step(
-        run.desk,
-        inbox,
-        outbox,
-        history,
-        out,
-        at,
-        run.line,
-        before,
-        l,
-    );
+    let at = w.at;
+    let line = w.line;
+    let tally = w.tally;
+    let found = tallied_step(d, inbox, outbox, history, out, at, line, tally, c);
     let stepped = found.stepped;
     let desk = stepped.desk;
     let tally = found.tally;
-    let running = Running {
-        desk,
+    let written = Written {
         tally,
-        line: run.line + 1,
-    };
-    Written {
-        running,
+        line: line + 1,
         at: stepped.at,
-    }
+    };
+    After { desk, written }
 }

@@ -5,19 +5,14 @@ use mathlib.Core.List.{List}
 use Rattle.rules.specs.declared.answers.Tally.{Tally}
 use Rattle.rules.specs.Coincide.{Coincide}
 use Rattle.rules.specs.Transcript.{tallied}
-use Rattle.rules.proofs.Coincide.{one, joined, from-each, both, value, first}
+use Rattle.rules.proofs.Coincide.{one, joined, from-each, both, value}
 use Rattle.steps.specs.declared.step.Stepped.{Stepped}
 use Rattle.steps.specs.Step.{Replied, repliedOf}
 use Rattle.steps.proofs.step.step as step
-use Rattle.steps.proofs.step.line_step as line-step
-use Rattle.steps.proofs.traced.put_trace as put-trace
 use Rattle.steps.proofs.tally.raised as raised
-use Rattle.steps.proofs.tally.raise as raise
-use Rattle.steps.proofs.tally.one_more as one-more
-use Rattle.steps.proofs.counted.counted_step as counted-step
 use Rattle.steps.proofs.counted.tallied_step as tallied-step
 
--- ---- step, line_step and put_trace: the reply's number, the desk, every number of the three tables, the place and every byte of the page
+-- ---- step: the reply's number, the desk, every number of the three tables, the place and every byte of the page
 stepped-once : (y : Replied) {r r′ : Stepped} {i i′ o o′ h h′ out out′ : List ℕ} → repliedOf r i o h out ≡ y → repliedOf r′ i′ o′ h′ out′ ≡ y
     → (r ≡ r′) × (i ≡ i′) × (o ≡ o′) × (h ≡ h′) × (out ≡ out′)
 stepped-once y {r} {r′} e f =
@@ -34,32 +29,13 @@ stepped-once y {r} {r′} e f =
 pub step-once : Coincide step.ended (λ M 𝓤. step.clauses 𝓤)
 step-once w x g = both w (λ p q. let s = stepped-once _ p q in (s .0, λ j. (tt, (s .1 j, (s .2 j, (s .3 j, (s .4 j, (tt, (tt, (tt, tt))))))))))
 
-pub line-step-once : Coincide line-step.ended (λ M 𝓤. line-step.clauses 𝓤)
-line-step-once w x g = both w (λ p q. let s = stepped-once _ p q in (s .0, λ j. (tt, (s .1 j, (s .2 j, (s .3 j, (s .4 j, (tt, (tt, (tt, tt))))))))))
-
-pub put-trace-once : Coincide put-trace.ended (λ M 𝓤. put-trace.clauses 𝓤)
-put-trace-once w x g = both w (λ p q. let s = stepped-once _ p q in (s .0, λ j. (tt, (tt, (tt, (tt, (s .4 j, (tt, (tt, (tt, tt))))))))))
-
 -- ---- the tally
 pub raised-once : Coincide raised.ended (λ M 𝓤. raised.clauses 𝓤)
 raised-once w x g = value w
 
-pub raise-once : Coincide raise.ended (λ M 𝓤. raise.clauses 𝓤)
-raise-once w x g = first w
-
-pub one-more-once : Coincide one-more.ended (λ M 𝓤. one-more.clauses 𝓤)
-one-more-once w x g = value w
-
--- ---- counted_step and tallied_step: the same as line_step, and the tally
+-- ---- tallied_step: the same as step, and the tally
 tally-once : (t : Tally) {r r′ : Stepped} {u u′ : Tally} → r ≡ r′ → u ≡ tallied t (r .number) → u′ ≡ tallied t (r′ .number) → u ≡ u′
 tally-once t e p q = p ∙ ap (λ (r : Stepped). tallied t (r .number)) e ∙ sym q
-
-pub counted-step-once : Coincide counted-step.ended (λ M 𝓤. counted-step.clauses 𝓤)
-counted-step-once w x g =
-    from-each w (joined w (one w) (one w)) (joined w (one w) (one w)) (λ p q.
-    let s = stepped-once _ (p .0) (q .0) in
-    let t = tally-once _ (s .0) (p .1) (q .1) in
-    (s .0, λ j. (tt, (s .1 j, (s .2 j, (s .3 j, (s .4 j, (tt, (tt, (t j, (tt, tt)))))))))))
 
 pub tallied-step-once : Coincide tallied-step.ended (λ M 𝓤. tallied-step.clauses 𝓤)
 tallied-step-once w x g =

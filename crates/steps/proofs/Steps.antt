@@ -7,15 +7,19 @@ use lib.ListN.{length, getD, take}
 use Rattle.rules.specs.declared.rows.Nonce.{Nonce}
 use Rattle.rules.specs.declared.rows.Lot.{Lot}
 use Rattle.rules.specs.declared.calls.Call.{Call}
+use Rattle.rules.specs.declared.calls.SignFields.{SignFields}
 use Rattle.rules.specs.declared.answers.Answer.{Answer}
 use Rattle.rules.specs.declared.answers.Answered.{Answered}
 use Rattle.rules.specs.Tables.{recordShape}
 use Rattle.rules.specs.State.{Book, view, historyOf}
-use Rattle.rules.specs.Replies.{Reply, told, if-done}
+use Rattle.rules.specs.Replies.{Reply, told, plain, if-done}
 use Rattle.rules.specs.Effects.{changesNothing}
 use Rattle.rules.specs.Answer.{answer, outcomeOf, replyNumber, replyWith, doneAnswer, piecesOf, traceAnswer, TraceOutcome}
+use Rattle.rules.specs.Facts.{Accepted}
+use Rattle.rules.proofs.Accepts.{accepted-number}
 use Rattle.rules.proofs.Laying.{length-rows}
 use Rattle.rules.proofs.Books.{nothing-changed}
+use Rattle.ledger.proofs.Laws.{sign-answers}
 use Rattle.history.specs.Tracing.{traceOutcomeOf}
 use Rattle.lots.proofs.TraceJoin.{Enough, trace-reply, trace-pieces}
 use Rattle.pages.specs.Writing.{Page, page, put}
@@ -32,6 +36,21 @@ valueCount r = length (r .values)
 pub plain-replied : (a : Answered) (i o h : List ℕ) (r : Stepped) (out : List ℕ) (n : ℕ) (p : Page) → r .number ≡ told (a .answer) .number → r .desk ≡ a .desk → page out (r .at) ≡ put p (replyLine n (told (a .answer)))
     → repliedOf r i o h out ≡ replied n p (outcomeOf a i o h)
 plain-replied a i o h r out n p e f g = rw (e, f, g, reply-line n (outcomeOf a i o h) refl)
+
+-- a call that its own function has done: what the rules answer, in tables as long as they came
+pub record Done (b : Book) (c : Call) (i o h : List ℕ) (a : Answered) : Type 0 where
+  pub outcome : outcomeOf a i o h ≡ answer b c
+  pub inbox : length i ≡ length (b .inbox)
+  pub outbox : length o ≡ length (b .outbox)
+  pub history : length h ≡ length (b .history)
+
+pub done-as : (b : Book) {c x : Call} {i o h i′ o′ h′ : List ℕ} {a a′ : Answered} → c ≡ x → i ≡ i′ → o ≡ o′ → h ≡ h′ → a ≡ a′ → Done b x i′ o′ h′ a′ → Done b c i o h a
+done-as b e p q r s d = rw (e, p, q, r, s) d
+
+-- a sign changes nothing
+pub signed : (b : Book) (s : SignFields) → Accepted b (Call.Sign s) → outcomeOf (record { answer = Answer.Done; desk = b .desk }) (b .inbox) (b .outbox) (b .history) ≡ answer b (Call.Sign s)
+unfolding told
+signed b s y = sign-answers b s Answer.Done (sym (ap plain (accepted-number b (Call.Sign s) y)))
 
 -- ---- a trace
 -- a done trace hands out as many rows as there are pieces

@@ -15,19 +15,19 @@ use denote.Slice.{sliceVal, MutSlice, finally}
 use denote.Struct.Laws as LL
 use denote.Enum.Laws as LE
 use Rattle.rules.specs.declared.answers.Tally.{Tally}
-use Rattle.rules.specs.declared.calls.Line.{Line}
+use Rattle.rules.specs.declared.calls.Call.{Call}
 use Rattle.rules.specs.declared.desk.Desk.{Desk}
 use Rattle.rules.proofs.answers.Tally as T
 use Rattle.rules.proofs.answers.Tally.Laws as T′
-use Rattle.rules.proofs.calls.Line as Ln
-use Rattle.rules.proofs.calls.Line.Laws as Ln′
+use Rattle.rules.proofs.calls.Call as Cl
+use Rattle.rules.proofs.calls.Call.Laws as Cl′
 use Rattle.rules.proofs.desk.Desk as Dk
 use Rattle.rules.proofs.desk.Desk.Laws as Dk′
 use Rattle.steps.specs.declared.step.Stepped.{Stepped}
 use Rattle.steps.proofs.step.Stepped as Sp
 use Rattle.steps.proofs.step.Stepped.Laws as Sp′
 
--- ---- a tally, a desk, a line as it was read, and what a step leaves
+-- ---- a tally, a desk, a call, and what a step leaves
 abbrev pub Tallies : RattleType
 Tallies = T.the-row
 
@@ -40,11 +40,11 @@ Desks = Dk.the-row
 abbrev pub machK : Desk → Val
 machK d = LL.tuple-val Dk.the-type Dk′.the-laws (Dk.the-type .to d)
 
-abbrev pub Lines : RattleType
-Lines = Ln.the-row
+abbrev pub Calls : RattleType
+Calls = Cl.the-row
 
-abbrev pub machL : Line → Val
-machL l = LE.sum-val Ln.the-type Ln′.the-laws (Ln.the-type .to l)
+abbrev pub machC : Call → Val
+machC c = LE.sum-val Cl.the-type Cl′.the-laws (Cl.the-type .to c)
 
 abbrev pub Results : RattleType
 Results = Sp.the-row

@@ -1,12 +1,9 @@
 -- One call answered: the book after it, the reply's number, and the page with the reply's line; and the text of an answer's line.
 use Prim.Native.Nat.{ℕ, _≤_}
-use mathlib.Core.Path.{_≡_}
 use mathlib.Core.List.{List, [], _∷_, _++_}
 use lib.ListN.{length, take}
 use Rattle.rules.specs.declared.rows.Lot.{Lot}
 use Rattle.rules.specs.declared.desk.Desk.{Desk}
-use Rattle.rules.specs.declared.calls.Call.{Call}
-use Rattle.rules.specs.declared.calls.Line.{Line}
 use Rattle.rules.specs.declared.answers.Answer.{Answer}
 use Rattle.rules.specs.Limits.{historyRows}
 use Rattle.rules.specs.Lists.{joined}
@@ -14,7 +11,6 @@ use Rattle.rules.specs.Lines.{lineFeed, tabbed}
 use Rattle.rules.specs.State.{Book}
 use Rattle.rules.specs.Replies.{told}
 use Rattle.rules.specs.Answer.{Outcome, bookOf}
-use Rattle.rules.specs.Facts.{Accepted}
 use Rattle.rules.specs.Transcript.{pieceValues, replyText}
 use Rattle.pages.specs.Writing.{Page, page, put}
 use Rattle.replies.specs.Writing.{replyStart}
@@ -54,10 +50,6 @@ handedCount (Answer.Refused why) = 0
 -- an answer's line, with the pieces that lie in their table
 unfoldable pub answerText : ℕ → Answer → List Lot → List ℕ
 answerText n a ps = replyStart n (told a) ++ tabbed (joined pieceValues (handed a ps)) ++ (lineFeed ∷ [])
-
--- whatever call a line reads as, nothing refuses it
-pub record LineAccepted (b : Book) (l : Line) : Type 0 where
-  pub accepts : (c : Call) → l ≡ Line.Reads c → Accepted b c
 
 -- the two tables of a trace have a row for each of so many records, if a history can have as many
 pub record HasTables (records : ℕ) (work pieces : List Lot) : Type 0 where

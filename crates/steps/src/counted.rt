@@ -1,19 +1,20 @@
-// A line's step, which is handed the tally and raises it there.
+// The step of a call that nothing refuses, which is handed the tally and raises it there.
 use crate::step::Stepped;
-use crate::step::line_step;
-use crate::tally::raise;
+use crate::step::step_done;
+use crate::tally::raised;
 use rules::answers::Tally;
-use rules::calls::Line;
+use rules::calls::Call;
 use rules::desk::Desk;
 ghost use Prim.Native.Nat.{_≤_};
 ghost use mathlib.Core.Path.{_≡_};
-ghost use Rattle.rules.specs.Answer.{bookOf};
-ghost use Rattle.rules.specs.Transcript.{answerLine, tallied};
+ghost use Rattle.rules.specs.Answer.{bookOf, answer};
+ghost use Rattle.rules.specs.Facts.{Accepted};
+ghost use Rattle.rules.specs.Transcript.{tallied};
 ghost use Rattle.pages.specs.Writing.{page};
-ghost use Rattle.steps.specs.Step.{repliedOf, replied, LineAccepted};
+ghost use Rattle.steps.specs.Step.{repliedOf, replied};
 
 // "One tally, handed to each step and updated there": raised once, by the number of the step's reply.
-pub fn counted_step(
+pub(crate) fn counted_step(
     d: Desk,
     inbox: &mut [u64],
     outbox: &mut [u64],
@@ -22,16 +23,16 @@ pub fn counted_step(
     at: usize,
     line: u64,
     tally: &mut Tally,
-    l: Line,
+    c: Call,
 ) -> Stepped
     requires { ⌜ now tally .done ≤ 100000 ⌝ }
     requires { ⌜ now tally .other ≤ 100000 ⌝ }
-    requires { ⌜ LineAccepted (bookOf d (now inbox) (now outbox) (now history)) l ⌝ }
-    ensures { λ r. ⌜ repliedOf r (now (inbox .exit)) (now (outbox .exit)) (now (history .exit)) (now (out .exit)) ≡ replied line (page (now (out .entry)) at) (answerLine (bookOf d (now (inbox .entry)) (now (outbox .entry)) (now (history .entry))) l) ⌝ }
+    requires { ⌜ Accepted (bookOf d (now inbox) (now outbox) (now history)) c ⌝ }
+    ensures { λ r. ⌜ repliedOf r (now (inbox .exit)) (now (outbox .exit)) (now (history .exit)) (now (out .exit)) ≡ replied line (page (now (out .entry)) at) (answer (bookOf d (now (inbox .entry)) (now (outbox .entry)) (now (history .entry))) c) ⌝ }
     ensures { λ r. ⌜ now (tally .exit) ≡ tallied (now (tally .entry)) (r .number) ⌝ }
 {
-    let s = line_step(d, inbox, outbox, history, out, at, line, l);
-    raise(tally, s.number);
+    let s = step_done(d, inbox, outbox, history, out, at, line, c);
+    *tally = raised(*tally, s.number);
     s
 }
 
@@ -51,15 +52,15 @@ pub fn tallied_step(
     at: usize,
     line: u64,
     tally: Tally,
-    l: Line,
+    c: Call,
 ) -> Tallied
     requires { ⌜ tally .done ≤ 100000 ⌝ }
     requires { ⌜ tally .other ≤ 100000 ⌝ }
-    requires { ⌜ LineAccepted (bookOf d (now inbox) (now outbox) (now history)) l ⌝ }
-    ensures { λ r. ⌜ repliedOf (r .stepped) (now (inbox .exit)) (now (outbox .exit)) (now (history .exit)) (now (out .exit)) ≡ replied line (page (now (out .entry)) at) (answerLine (bookOf d (now (inbox .entry)) (now (outbox .entry)) (now (history .entry))) l) ⌝ }
+    requires { ⌜ Accepted (bookOf d (now inbox) (now outbox) (now history)) c ⌝ }
+    ensures { λ r. ⌜ repliedOf (r .stepped) (now (inbox .exit)) (now (outbox .exit)) (now (history .exit)) (now (out .exit)) ≡ replied line (page (now (out .entry)) at) (answer (bookOf d (now (inbox .entry)) (now (outbox .entry)) (now (history .entry))) c) ⌝ }
     ensures { λ r. ⌜ r .tally ≡ tallied tally (r .stepped .number) ⌝ }
 {
     let mut t = tally;
-    let stepped = counted_step(d, inbox, outbox, history, out, at, line, &mut t, l);
+    let stepped = counted_step(d, inbox, outbox, history, out, at, line, &mut t, c);
     Tallied { stepped, tally: t }
 }

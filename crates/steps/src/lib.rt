@@ -1,4 +1,4 @@
-// One call or line answered, its reply written, and the tally raised once.
+// One call answered, its reply written, and the tally raised once.
 pub mod counted;
 pub mod step;
 pub mod tally;

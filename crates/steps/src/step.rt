@@ -1,21 +1,21 @@
 // One call of the nine: answered, and its reply's line written.
 use crate::traced::put_trace;
+use desk::answers::is_done;
+use frames::counts_of;
+use refusals::call_reply;
 use replies::put_reply_line;
 use replies::reply_number;
 use rules::answers::Answer;
 use rules::answers::Answered;
-use rules::answers::Refusal;
 use rules::calls::Call;
-use rules::calls::Line;
 use rules::desk::Desk;
 ghost use mathlib.Core.Path.{_≡_};
 ghost use Rattle.rules.specs.Facts.{Accepted};
 ghost use Rattle.rules.specs.Replies.{told};
 ghost use Rattle.rules.specs.Answer.{bookOf, answer};
-ghost use Rattle.rules.specs.Transcript.{answerLine};
 ghost use Rattle.pages.specs.Writing.{page, put};
 ghost use Rattle.replies.specs.Writing.{replyLine};
-ghost use Rattle.steps.specs.Step.{repliedOf, replied, LineAccepted};
+ghost use Rattle.steps.specs.Step.{repliedOf, replied};
 
 // What a step leaves beside the lent tables: the reply's number, the desk, and the place up to which the
 // output is written.
@@ -25,9 +25,8 @@ pub struct Stepped {
     pub at: usize,
 }
 
-// What a line gets whose call nothing refuses: the call that it reads as is answered; 1 Malformed leaves the
-// book as it was.
-pub fn line_step(
+// "A read line is one of nine calls": what refuses it is asked first, and where nothing does it is done.
+pub fn step(
     d: Desk,
     inbox: &mut [u64],
     outbox: &mut [u64],
@@ -35,24 +34,35 @@ pub fn line_step(
     out: &mut [u8],
     at: usize,
     line: u64,
-    l: Line,
+    c: Call,
 ) -> Stepped
-    requires { ⌜ LineAccepted (bookOf d (now inbox) (now outbox) (now history)) l ⌝ }
-    ensures { λ r. ⌜ repliedOf r (now (inbox .exit)) (now (outbox .exit)) (now (history .exit)) (now (out .exit)) ≡ replied line (page (now (out .entry)) at) (answerLine (bookOf d (now (inbox .entry)) (now (outbox .entry)) (now (history .entry))) l) ⌝ }
+    ensures { λ r. ⌜ repliedOf r (now (inbox .exit)) (now (outbox .exit)) (now (history .exit)) (now (out .exit)) ≡ replied line (page (now (out .entry)) at) (answer (bookOf d (now (inbox .entry)) (now (outbox .entry)) (now (history .entry))) c) ⌝ }
 {
-    match l {
-        Line::Reads(c) => step(d, inbox, outbox, history, out, at, line, c),
-        Line::Malformed => {
-            let why = Refusal::Malformed;
-            let answer = Answer::Refused(why);
-            put_answered(out, at, line, Answered { answer, desk: d })
-        }
+    let counts = counts_of(d);
+    let reply = call_reply(
+        &d.balances,
+        &d.holders,
+        &d.lifetime,
+        &d.settled,
+        counts,
+        inbox,
+        outbox,
+        history,
+        c,
+    );
+    if !is_done(reply) {
+        let a = Answered {
+            answer: reply,
+            desk: d,
+        };
+        return put_answered(out, at, line, a);
     }
+    step_done(d, inbox, outbox, history, out, at, line, c)
 }
 
-// "A read line is one of nine calls": each is done by its own function. It was asked before whether anything
-// refuses it; only a trace and a sign, which are done by the whole call, are tested again.
-pub fn step(
+// A call that nothing refuses: each is done by its own function. Only a trace, which works in tables of its own, is
+// tested again; a sign changes nothing.
+pub(crate) fn step_done(
     d: Desk,
     inbox: &mut [u64],
     outbox: &mut [u64],
@@ -65,41 +75,21 @@ pub fn step(
     requires { ⌜ Accepted (bookOf d (now inbox) (now outbox) (now history)) c ⌝ }
     ensures { λ r. ⌜ repliedOf r (now (inbox .exit)) (now (outbox .exit)) (now (history .exit)) (now (out .exit)) ≡ replied line (page (now (out .entry)) at) (answer (bookOf d (now (inbox .entry)) (now (outbox .entry)) (now (history .entry))) c) ⌝ }
 {
-    match c {
-        Call::Deposit(x) => {
-            let a = inbox::deposit_done(d, inbox, outbox, history, x);
-            put_answered(out, at, line, a)
+    let a = match c {
+        Call::Deposit(x) => inbox::deposit_done(d, inbox, outbox, history, x),
+        Call::Claim(x) => inbox::claim_done(d, inbox, outbox, history, x),
+        Call::Transfer(x) => ledger::transfer_done(d, inbox, outbox, history, x),
+        Call::Withdraw(x) => outbox::withdraw_done(d, inbox, outbox, history, x),
+        Call::Send => outbox::send_done(d, inbox, outbox, history),
+        Call::Settle(n) => outbox::settle_done(d, inbox, outbox, history, n),
+        Call::Grant(x) => ledger::grant_done(d, inbox, outbox, history, x),
+        Call::Sign(_) => {
+            let answer = Answer::Done;
+            Answered { answer, desk: d }
         }
-        Call::Claim(x) => {
-            let a = inbox::claim_done(d, inbox, outbox, history, x);
-            put_answered(out, at, line, a)
-        }
-        Call::Transfer(x) => {
-            let a = ledger::transfer_done(d, inbox, outbox, history, x);
-            put_answered(out, at, line, a)
-        }
-        Call::Withdraw(x) => {
-            let a = outbox::withdraw_done(d, inbox, outbox, history, x);
-            put_answered(out, at, line, a)
-        }
-        Call::Send => {
-            let a = outbox::send_done(d, inbox, outbox, history);
-            put_answered(out, at, line, a)
-        }
-        Call::Settle(n) => {
-            let a = outbox::settle_done(d, inbox, outbox, history, n);
-            put_answered(out, at, line, a)
-        }
-        Call::Grant(x) => {
-            let a = ledger::grant_done(d, inbox, outbox, history, x);
-            put_answered(out, at, line, a)
-        }
-        Call::Sign(x) => {
-            let a = ledger::sign(d, inbox, outbox, history, x);
-            put_answered(out, at, line, a)
-        }
-        Call::Trace(n) => put_trace(d, inbox, outbox, history, out, at, line, n),
-    }
+        Call::Trace(n) => return put_trace(d, inbox, outbox, history, out, at, line, n),
+    };
+    put_answered(out, at, line, a)
 }
 
 // The reply's line of an answer that hands out no pieces.

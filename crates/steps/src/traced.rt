@@ -23,7 +23,7 @@ ghost use Rattle.steps.specs.Step.{repliedOf, replied, handedCount, answ
 // A trace works in a table of lots that is lent for it, hands out its pieces in another, and leaves the book
 // as it was. Both tables have "at least as many rows as the history has records": a short history has short
 // tables, since what is not used would cost more than all that is.
-pub fn put_trace(
+pub(crate) fn put_trace(
     d: Desk,
     inbox: &[u64],
     outbox: &[u64],

@@ -35,7 +35,7 @@ answer-said-requires : tie.Need-answer-said-requires
 answer-said-requires c κs =
     let r = c .before .before .before .before .before .before .before .before .pre .0 .counted in
     let l = c .before .before .if1 .left in
-    (omega arith, omega arith)
+    record { done = omega arith; other = omega arith; line = omega arith }
 
 put-end-requires-3 : tie.Need-put-end-requires-3
 put-end-requires-3 c κs = search needs
@@ -48,7 +48,7 @@ unfolding Closes EndsWith
 returns-3 c =
     let a = c .before .before .before .before .before .before .before .before .before .before .before .before .before .before .before .before .args in
     let w = c .before .before .before .before .before .before .before .answer-said in
-    closed-all (a .f) (a .hold .now) (a .out .now) _ _ (λ i o h. closed-unfinished (a .f .running) i o h (a .hold .now) (page (a .out .now) (a .f .at)) (a .f .held) (c .before .before .before .before .before .before .before .before .before .before .if1 .left) (c .before .before .before .before .before .before .before .before .before .if2 .left) (c .before .before .before .before .before .before .before .before .before .before .before .before .before .before .before .before .pre .0 .size) (w .result .tally) (w .ensures .1) (w .ensures .0) (c .before .before .put-end3 .ensures)) (c .before .before .before .before .before .before .before .before .before .before .before .before .before .before .before .before .pre .1)
+    closed-all (a .f) (a .hold .now) (a .out .now) _ _ (λ i o h. closed-unfinished (a .f .running) i o h (a .hold .now) (page (a .out .now) (a .f .at)) (a .f .held) (c .before .before .before .before .before .before .before .before .before .before .if1 .left) (c .before .before .before .before .before .before .before .before .before .if2 .left) (c .before .before .before .before .before .before .before .before .before .before .before .before .before .before .before .before .pre .0 .size) (w .result .tally) (w .ensures .1 .1) (w .ensures .0) (c .before .before .put-end3 .ensures)) (c .before .before .before .before .before .before .before .before .before .before .before .before .before .before .before .before .pre .1)
 
 pub close-spec : {M : Type 1} → statement M
 close-spec =

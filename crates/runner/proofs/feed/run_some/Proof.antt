@@ -1,36 +1,25 @@
-use Prim.Native.Nat.{ℕ, zero, suc, _+_, _-_, _≤_, _<_}
-use mathlib.Core.Path.{_≡_, refl, sym, _∙_}
+use Prim.Native.Nat.{ℕ, zero, suc, _-_, _≤_, _<_}
+use mathlib.Core.Path.{_≡_, refl, sym, subst, _∙_}
 use mathlib.Core.Bool.{Bool, true, false, not, false≢true}
+use mathlib.Core.Logic.{⊎-elim}
 use native.Mathlib.Omega.{arith}
 use lib.Dec.{leb}
 use lib.ListN.{length}
 use lib.Seq.{length-take-le}
 use borrow.Author.Tests.{leb-false}
-use Rattle.rules.specs.declared.desk.Desk.{Desk}
-use Rattle.rules.specs.declared.answers.Tally.{Tally}
 use Rattle.rules.specs.State.{Book}
-use Rattle.rules.specs.Replies.{told, plain}
 use Rattle.rules.specs.Answer.{bookOf}
 use Rattle.fields.proofs.FieldLaws.{from-on}
 use Rattle.pages.specs.Writing.{Page, page}
-use Rattle.refusals.specs.Said.{lineReplyNumber}
-use Rattle.refusals.proofs.Said.{all-said}
-use Rattle.steps.specs.declared.step.Stepped.{Stepped}
-use Rattle.steps.specs.Step.{steppedOf}
-use Rattle.runner.specs.declared.feed.Feeding.{Feeding}
-use Rattle.runner.specs.declared.running.Running.{Running}
-use Rattle.runner.specs.Feeding.{fedMachine}
-use Rattle.runner.proofs.Answering.{said-replied, line-accepted, line-answered, line-text, line-counted}
+use Rattle.runner.specs.declared.running.After.{After}
+use Rattle.runner.specs.declared.running.Heard.{Heard}
+use Rattle.runner.specs.Running.{runningOf, Hears}
+use Rattle.runner.specs.Feeding.{feedingOf, fedMachine}
+use Rattle.runner.proofs.Answering.{due-accepted, said-leaves, due-leaves, line-answered, line-counted, Turned, turned-as}
 use Rattle.runner.proofs.Parts.{SoFar, so-begun, so-stopped, so-held, so-line, so-some, rest-length}
 use borrow.Author.Needs.{needs}
 use Rattle.runner.proofs.feed.run_some.Statement.{statement}
 use Rattle.runner.proofs.feed.run_some.Tie as tie
-
-abbrev running : Desk → Tally → ℕ → Running
-running desk tally line = record { desk = desk; tally = tally; line = line }
-
-abbrev as-fed : Desk → Tally → ℕ → ℕ → ℕ → Feeding
-as-fed desk tally line held at = record { running = running desk tally line; held = held; at = at }
 
 -- what `if !has_room` leaves
 not-false : (t : Bool) → not t ≡ false → t ≡ true
@@ -50,17 +39,38 @@ some-moved zero n n₀ at at₀ e z h r = absurd (let y = z refl in omega (arith
 some-moved (suc k) n n₀ at at₀ e z h r = omega arith
 
 abbrev Inv-loop : tie.InvT-loop
-Inv-loop inbox₀ outbox₀ history₀ hold₀ out₀ chunk desk₀ tally₀ line₀ held₀ at₀ k₀ inbox outbox history hold out desk tally line held at k =
-    SoFar (fedMachine (as-fed desk₀ tally₀ line₀ held₀ at₀) inbox₀ outbox₀ history₀ hold₀) chunk out₀ at₀ k (as-fed desk tally line held at) inbox outbox history hold out
+Inv-loop inbox₀ outbox₀ history₀ hold₀ out₀ chunk desk₀ w₀ held₀ k₀ inbox outbox history hold out desk w held k =
+    SoFar (fedMachine (feedingOf desk₀ w₀ held₀) inbox₀ outbox₀ history₀ hold₀) chunk out₀ (w₀ .at) k (feedingOf desk w held) inbox outbox history hold out
     × (length inbox ≡ length inbox₀)
     × (length outbox ≡ length outbox₀)
     × (length history ≡ length history₀)
     × (length hold ≡ length hold₀)
     × (length out ≡ length out₀)
-    × (k ≡ 0 → at ≡ at₀)
+    × (k ≡ 0 → w .at ≡ w₀ .at)
 
 abbrev μ-loop : tie.MeasureT-loop
-μ-loop inbox₀ outbox₀ history₀ hold₀ out₀ chunk desk₀ tally₀ line₀ held₀ at₀ k₀ inbox outbox history hold out desk tally line held at k = length chunk - k
+μ-loop inbox₀ outbox₀ history₀ hold₀ out₀ chunk desk₀ w₀ held₀ k₀ inbox outbox history hold out desk w held k = length chunk - k
+
+-- what the line comes to, of the book as it lies in the desk and the tables
+heard : (c : tie.After-hear Inv-loop μ-loop) {x : Heard} → c .hear .result ≡ x → Hears (bookOf (c .before .before .before .before .before .before .before .before .before .before .before .before .before .before .before .before .before .before .before .before .before .before .before .loop .desk) (c .before .before .before .before .before .before .before .before .before .before .before .before .before .before .before .before .before .before .before .before .before .before .before .loop .inbox) (c .before .before .before .before .before .before .before .before .before .before .before .before .before .before .before .before .before .before .before .before .before .before .before .loop .outbox) (c .before .before .before .before .before .before .before .before .before .before .before .before .before .before .before .before .before .before .before .before .before .before .before .loop .history)) (c .before .before .before .before .before .before .before .before .before .before .before .before .whole-line .result) x
+heard c e =
+    let v = c .before .before .before .before .before .before .before .before .before .before .before .before .before .before .before .before .before .before .before .before .before .before .before .loop in
+    let l = c .before .before .before .before .before .before .before .before .before .before .before .before .whole-line .result in
+    subst (Hears (bookOf (v .desk) (v .inbox) (v .outbox) (v .history)) l) e (rw (c .before .before .before .before .before .before .before .before .before .counts-of .ensures) at (c .hear .ensures))
+
+-- and what the turn leaves, whichever of the two it is
+turned : (c : tie.At-match-came Inv-loop μ-loop) → Turned (bookOf (c .before .before .before .before .before .before .before .before .before .before .before .before .before .before .before .before .before .before .before .before .before .before .before .before .loop .desk) (c .before .before .before .before .before .before .before .before .before .before .before .before .before .before .before .before .before .before .before .before .before .before .before .before .loop .inbox) (c .before .before .before .before .before .before .before .before .before .before .before .before .before .before .before .before .before .before .before .before .before .before .before .before .loop .outbox) (c .before .before .before .before .before .before .before .before .before .before .before .before .before .before .before .before .before .before .before .before .before .before .before .before .loop .history)) (c .before .before .before .before .before .before .before .before .before .before .before .before .before .whole-line .result) (c .before .before .before .before .before .before .before .before .before .before .before .before .before .before .before .before .before .before .before .before .before .before .before .before .loop .w) (c .before .before .before .before .before .before .before .before .before .before .before .before .before .before .before .before .before .before .before .before .before .before .before .before .loop .out) (record { desk = c .match .desk; written = c .match .w }) (c .match .inbox) (c .match .outbox) (c .match .history) (c .match .out)
+turned c =
+    let v = c .before .before .before .before .before .before .before .before .before .before .before .before .before .before .before .before .before .before .before .before .before .before .before .before .loop in
+    let l = c .before .before .before .before .before .before .before .before .before .before .before .before .before .whole-line .result in
+    let b : Book = bookOf (v .desk) (v .inbox) (v .outbox) (v .history) in
+    let p : Page = page (v .out) (v .w .at) in
+    ⊎-elim
+    (λ s. turned-as b l (v .w) (v .out) (s .7) (s .8) (s .9) (s .10) (s .11) (s .12)
+    (record { leaves = said-leaves (v .desk) (v .w) (v .inbox) (v .outbox) (v .history) l _ p (s .4 .result) (s .4 .last .1 .0) (heard (c .before) (s .1 .given .1)) (s .4 .ensures .0) (s .4 .ensures .1 .0) (s .4 .ensures .1 .1); inbox = refl; outbox = refl; history = refl; page = s .5 .given }))
+    (λ s. turned-as b l (v .w) (v .out) (s .18) (s .19) (s .20) (s .21) (s .22) (s .23)
+    (record { leaves = due-leaves b l _ (v .w) p (s .7 .result) _ _ _ _ (heard (c .before) (s .1 .given .1)) (s .7 .ensures); inbox = s .8 .given; outbox = s .10 .given; history = s .12 .given; page = s .14 .given }))
+    (c .match .came)
 
 loop-holds : tie.Need-loop-holds Inv-loop μ-loop
 loop-holds c =
@@ -92,10 +102,10 @@ returns : tie.Need-returns Inv-loop μ-loop
 returns c =
     let a = c .before .before .before .before .before .before .before .before .before .before .before .before .before .before .args in
     let v = c .before .before .before .before .loop in
-    so-some (a .f) (a .inbox .now) (a .outbox .now) (a .history .now) (a .hold .now) (a .out .now) (a .chunk .now) (v .k) (as-fed (v .desk) (v .tally) (v .line) (v .held) (v .at)) (v .inbox) (v .outbox) (v .history) (v .hold) (v .out) (v .inv .0) (λ some room. some-moved (v .k) _ _ _ _ (v .inv .5) (v .inv .6) (no-room (c .before .before .has-room .result) _ _ (c .before .before .has-room .ensures) (c .before .if1 .taken)) room) (c .so-far .result) (c .so-far .ensures)
+    so-some (a .f) (a .inbox .now) (a .outbox .now) (a .history .now) (a .hold .now) (a .out .now) (a .chunk .now) (v .k) (feedingOf (v .desk) (v .w) (v .held)) (v .inbox) (v .outbox) (v .history) (v .hold) (v .out) (v .inv .0) (λ some room. some-moved (v .k) _ _ _ _ (v .inv .5) (v .inv .6) (no-room (c .before .before .has-room .result) _ _ (c .before .before .has-room .ensures) (c .before .if1 .taken)) room) (c .so-far .result) (c .so-far .ensures)
 
 so-far-requires-2 : tie.Need-so-far-requires-2 Inv-loop μ-loop
-so-far-requires-2 c κs = search needs
+so-far-requires-2 c = search needs
 
 same-length-6 : tie.Need-same-length-6 Inv-loop μ-loop
 same-length-6 c = search needs
@@ -114,9 +124,9 @@ same-length-10 c = search needs
 
 returns-2 : tie.Need-returns-2 Inv-loop μ-loop
 returns-2 c =
-    let a = c .before .before .before .before .before .before .before .before .before .before .before .before .before .before .before .args in
-    let v = c .before .before .before .before .before .loop in
-    so-some (a .f) (a .inbox .now) (a .outbox .now) (a .history .now) (a .hold .now) (a .out .now) (a .chunk .now) (length (a .chunk .now)) (as-fed (v .desk) (v .tally) (v .line) (v .held) (v .at)) (v .inbox) (v .outbox) (v .history) (v .hold) (v .out) (so-stopped _ _ _ _ _ _ _ _ _ _ _ (v .inv .0) (c .before .if2 .taken)) (λ some room. some) (c .so-far2 .result) (c .so-far2 .ensures)
+    let a = c .before .before .before .before .before .before .before .before .before .before .before .before .before .before .before .before .args in
+    let v = c .before .before .before .before .before .before .loop in
+    so-some (a .f) (a .inbox .now) (a .outbox .now) (a .history .now) (a .hold .now) (a .out .now) (a .chunk .now) (length (a .chunk .now)) (feedingOf (v .desk) (v .w) (v .held)) (v .inbox) (v .outbox) (v .history) (v .hold) (v .out) (so-stopped _ _ _ _ _ _ _ _ _ _ _ (v .inv .0) (c .before .if2 .taken)) (λ some room. some) (c .so-far2 .result) (c .so-far2 .ensures)
 
 sub-rest : tie.Need-sub-rest Inv-loop μ-loop
 sub-rest c = search needs
@@ -131,10 +141,10 @@ feed-at-requires : tie.Need-feed-at-requires Inv-loop μ-loop
 feed-at-requires c κs = search needs
 
 hold-part-requires : tie.Need-hold-part-requires Inv-loop μ-loop
-hold-part-requires c κs = (c .before .before .before .before .before .before .before .before .loop .inv .0 .ready .held, c .before .before .before .before .before .before .before .before .loop .inv .0 .ready .size)
+hold-part-requires c κs = (c .before .before .before .before .before .before .before .before .before .loop .inv .0 .ready .held, c .before .before .before .before .before .before .before .before .before .loop .inv .0 .ready .size)
 
 so-far-requires-3 : tie.Need-so-far-requires-3 Inv-loop μ-loop
-so-far-requires-3 c κs = search needs
+so-far-requires-3 c = search needs
 
 same-length-11 : tie.Need-same-length-11 Inv-loop μ-loop
 same-length-11 c = search needs
@@ -153,147 +163,95 @@ same-length-15 c = search needs
 
 returns-3 : tie.Need-returns-3 Inv-loop μ-loop
 returns-3 c =
-    let a = c .before .before .before .before .before .before .before .before .before .before .before .before .before .before .before .before .before .before .before .before .before .before .args in
-    let v = c .before .before .before .before .before .before .before .before .before .before .before .before .loop in
+    let a = c .before .before .before .before .before .before .before .before .before .before .before .before .before .before .before .before .before .before .before .before .before .before .before .args in
+    let v = c .before .before .before .before .before .before .before .before .before .before .before .before .before .loop in
     let h = c .before .before .before .hold-part in
     let n = c .before .before .before .before .before .before .feed-at in
-    so-some (a .f) (a .inbox .now) (a .outbox .now) (a .history .now) (a .hold .now) (a .out .now) (a .chunk .now) (length (a .chunk .now)) (as-fed (v .desk) (v .tally) (v .line) (h .result) (v .at)) (v .inbox) (v .outbox) (v .history) (h .last .0) (v .out)
+    so-some (a .f) (a .inbox .now) (a .outbox .now) (a .history .now) (a .hold .now) (a .out .now) (a .chunk .now) (length (a .chunk .now)) (feedingOf (v .desk) (v .w) (h .result)) (v .inbox) (v .outbox) (v .history) (h .last .0) (v .out)
     (so-held _ _ _ _ _ _ _ _ _ _ _ (v .inv .0) (c .before .before .before .before .before .before .before .before .if2 .left) (from-on (a .chunk .now) (v .k)) (n .result) (n .ensures) (c .before .before .before .before .before .if3 .taken) (h .result) (h .last .0) (search needs) (h .ensures .0) (h .ensures .1)) (λ some room. some) (c .so-far3 .result) (c .so-far3 .ensures)
 
 slice-aggregate-whole-line : tie.Need-slice-aggregate-whole-line Inv-loop μ-loop
 slice-aggregate-whole-line c = sym (length-take-le _ _ (c .before .before .before .feed-at .ensures .within))
 
 whole-line-requires : tie.Need-whole-line-requires Inv-loop μ-loop
-whole-line-requires c κs = (c .before .before .before .before .before .before .before .before .before .loop .inv .0 .ready .held, c .before .before .before .before .before .before .before .before .before .loop .inv .0 .ready .size)
+whole-line-requires c κs = (c .before .before .before .before .before .before .before .before .before .before .loop .inv .0 .ready .held, c .before .before .before .before .before .before .before .before .before .before .loop .inv .0 .ready .size)
 
 counts-of-requires : tie.Need-counts-of-requires Inv-loop μ-loop
 counts-of-requires c κs = search needs
 
-line-reply-requires : tie.Need-line-reply-requires Inv-loop μ-loop
-line-reply-requires c κs = search needs
+hear-requires : tie.Need-hear-requires Inv-loop μ-loop
+hear-requires c κs = search needs
 
-says-all-requires : tie.Need-says-all-requires Inv-loop μ-loop
-says-all-requires c κs = search needs
+enum-known-heard : tie.Need-enum-known-heard Inv-loop μ-loop
+enum-known-heard c = search needs
 
 answer-said-requires : tie.Need-answer-said-requires Inv-loop μ-loop
 answer-said-requires c κs =
-    let r = c .before .before .before .before .before .before .before .before .before .before .before .before .before .before .before .before .before .before .before .before .before .before .before .before .before .loop .inv .0 .ready .counted in
-    let l = c .before .before .before .before .before .before .before .before .before .before .before .before .before .before .before .before .before .before .before .before .before .if2 .left in
-    (omega (arith, r .done, r .few, l), omega (arith, r .other, r .few, l))
+    let r = c .before .before .before .before .before .before .before .before .before .before .before .before .before .before .before .before .before .before .before .before .before .before .before .before .before .before .before .loop .inv .0 .ready .counted in
+    let l = c .before .before .before .before .before .before .before .before .before .before .before .before .before .before .before .before .before .before .before .before .before .before .if2 .left in
+    record { done = omega (arith, r .done, l); other = omega (arith, r .other, l); line = l }
 
-add-line : tie.Need-add-line Inv-loop μ-loop
-add-line c = let l = c .before .before .before .before .before .before .before .before .before .before .before .before .before .before .before .before .before .before .before .before .before .before .before .before .before .if2 .left in omega (arith, l)
+enum-known-heard-2 : tie.Need-enum-known-heard-2 Inv-loop μ-loop
+enum-known-heard-2 c = search needs
+
+answer-call-requires : tie.Need-answer-call-requires Inv-loop μ-loop
+answer-call-requires c κs =
+    let v = c .before .before .before .before .before .before .before .before .before .before .before .before .before .before .before .before .before .before .before .before .before .before .before .before .before .before .before .before .before .before .loop in
+    let r = v .inv .0 .ready .counted in
+    let l = c .before .before .before .before .before .before .before .before .before .before .before .before .before .before .before .before .before .before .before .before .before .before .before .before .before .if2 .left in
+    (record { done = omega (arith, r .done, l); other = omega (arith, r .other, l); line = l }, due-accepted _ _ _ (heard (c .before .before .before .before .before .before .before) (c .before .before .before .before .before .heard2 .given .1)))
 
 add-k : tie.Need-add-k Inv-loop μ-loop
 add-k c =
-    let first = c .before .before .before .before .before .before .before .before .before .before .before .before .before .before .before .before .before .before .before .before .before .before .before .before .before .before .before .before .before .before .before .before .before .before .before .before .before .before .before in
-    let known = c .before .before .before .before .before .before .before .before .before .before .before .before .before .before .before .before .before .before .before .before .before .before .before .before .before .before .before .before .before .before .before .before .before .shared-slice-known .given in
-    let i = c .before .before .before .before .before .before .before .before .before .before .before .before .before .before .before .before .before .before .before .before .before .before .if3 .left in
-    let v = c .before .before .before .before .before .before .before .before .before .before .before .before .before .before .before .before .before .before .before .before .before .before .before .before .before .before .before .before .before .loop in
-    let rest = rest-length (c .before .before .before .before .before .before .before .before .before .before .before .before .before .before .before .before .before .before .before .before .before .before .before .before .before .before .before .before .before .before .before .before .before .before .before .before .before .before .before .args .chunk .now) (v .k) (from-on (c .before .before .before .before .before .before .before .before .before .before .before .before .before .before .before .before .before .before .before .before .before .before .before .before .before .before .before .before .before .before .before .before .before .before .before .before .before .before .before .args .chunk .now) (v .k)) in
+    let first = c .before .before .before .before .before .before .before .before .before .before .before .before .before .before .before .before .before .before .before .before .before .before .before .before .before .before .before .before .before .before .before .before .before .before in
+    let known = c .before .before .before .before .before .before .before .before .before .before .before .before .before .before .before .before .before .before .before .before .before .before .before .before .before .before .before .before .shared-slice-known .given in
+    let i = c .before .before .before .before .before .before .before .before .before .before .before .before .before .before .before .before .if3 .left in
+    let v = c .before .before .before .before .before .before .before .before .before .before .before .before .before .before .before .before .before .before .before .before .before .before .before .before .loop in
+    let rest = rest-length (c .before .before .before .before .before .before .before .before .before .before .before .before .before .before .before .before .before .before .before .before .before .before .before .before .before .before .before .before .before .before .before .before .before .before .args .chunk .now) (v .k) (from-on (c .before .before .before .before .before .before .before .before .before .before .before .before .before .before .before .before .before .before .before .before .before .before .before .before .before .before .before .before .before .before .before .before .before .before .args .chunk .now) (v .k)) in
     omega (arith, i, rest)
 
 add-k-2 : tie.Need-add-k-2 Inv-loop μ-loop
 add-k-2 c =
-    let first = c .before .before .before .before .before .before .before .before .before .before .before .before .before .before .before .before .before .before .before .before .before .before .before .before .before .before .before .before .before .before .before .before .before .before .before .before .before .before .before in
-    let known = c .before .before .before .before .before .before .before .before .before .before .before .before .before .before .before .before .before .before .before .before .before .before .before .before .before .before .before .before .before .before .before .before .before .shared-slice-known .given in
-    let i = c .before .before .before .before .before .before .before .before .before .before .before .before .before .before .before .before .before .before .before .before .before .before .if3 .left in
-    let v = c .before .before .before .before .before .before .before .before .before .before .before .before .before .before .before .before .before .before .before .before .before .before .before .before .before .before .before .before .before .loop in
-    let rest = rest-length (c .before .before .before .before .before .before .before .before .before .before .before .before .before .before .before .before .before .before .before .before .before .before .before .before .before .before .before .before .before .before .before .before .before .before .before .before .before .before .before .args .chunk .now) (v .k) (from-on (c .before .before .before .before .before .before .before .before .before .before .before .before .before .before .before .before .before .before .before .before .before .before .before .before .before .before .before .before .before .before .before .before .before .before .before .before .before .before .before .args .chunk .now) (v .k)) in
+    let first = c .before .before .before .before .before .before .before .before .before .before .before .before .before .before .before .before .before .before .before .before .before .before .before .before .before .before .before .before .before .before .before .before .before .before in
+    let known = c .before .before .before .before .before .before .before .before .before .before .before .before .before .before .before .before .before .before .before .before .before .before .before .before .before .before .before .before .shared-slice-known .given in
+    let i = c .before .before .before .before .before .before .before .before .before .before .before .before .before .before .before .before .if3 .left in
+    let v = c .before .before .before .before .before .before .before .before .before .before .before .before .before .before .before .before .before .before .before .before .before .before .before .before .loop in
+    let rest = rest-length (c .before .before .before .before .before .before .before .before .before .before .before .before .before .before .before .before .before .before .before .before .before .before .before .before .before .before .before .before .before .before .before .before .before .before .args .chunk .now) (v .k) (from-on (c .before .before .before .before .before .before .before .before .before .before .before .before .before .before .before .before .before .before .before .before .before .before .before .before .before .before .before .before .before .before .before .before .before .before .args .chunk .now) (v .k)) in
     omega (arith, i, rest)
 
 loop-less : tie.Need-loop-less Inv-loop μ-loop
 loop-less c =
-    let i = c .before .before .before .before .before .before .before .before .before .before .before .before .before .before .before .before .before .before .before .before .before .before .if3 .left in
-    let v = c .before .before .before .before .before .before .before .before .before .before .before .before .before .before .before .before .before .before .before .before .before .before .before .before .before .before .before .before .before .loop in
-    let here = c .before .before .before .before .before .before .before .before .before .before .before .before .before .before .before .before .before .before .before .before .before .before .before .before .before .before .before .before .loop-test .taken in
-    let rest = rest-length (c .before .before .before .before .before .before .before .before .before .before .before .before .before .before .before .before .before .before .before .before .before .before .before .before .before .before .before .before .before .before .before .before .before .before .before .before .before .before .before .args .chunk .now) (v .k) (from-on (c .before .before .before .before .before .before .before .before .before .before .before .before .before .before .before .before .before .before .before .before .before .before .before .before .before .before .before .before .before .before .before .before .before .before .before .before .before .before .before .args .chunk .now) (v .k)) in
+    let i = c .before .before .before .before .before .before .before .before .before .before .before .before .before .before .before .before .if3 .left in
+    let v = c .before .before .before .before .before .before .before .before .before .before .before .before .before .before .before .before .before .before .before .before .before .before .before .before .loop in
+    let here = c .before .before .before .before .before .before .before .before .before .before .before .before .before .before .before .before .before .before .before .before .before .before .before .loop-test .taken in
+    let rest = rest-length (c .before .before .before .before .before .before .before .before .before .before .before .before .before .before .before .before .before .before .before .before .before .before .before .before .before .before .before .before .before .before .before .before .before .before .args .chunk .now) (v .k) (from-on (c .before .before .before .before .before .before .before .before .before .before .before .before .before .before .before .before .before .before .before .before .before .before .before .before .before .before .before .before .before .before .before .before .before .before .args .chunk .now) (v .k)) in
     omega (arith, i, rest, here)
 
 loop-again : tie.Need-loop-again Inv-loop μ-loop
 loop-again c =
-    let a = c .before .before .before .before .before .before .before .before .before .before .before .before .before .before .before .before .before .before .before .before .before .before .before .before .before .before .before .before .before .before .before .before .before .before .before .before .before .before .before .args in
-    let v = c .before .before .before .before .before .before .before .before .before .before .before .before .before .before .before .before .before .before .before .before .before .before .before .before .before .before .before .before .before .loop in
-    let n = c .before .before .before .before .before .before .before .before .before .before .before .before .before .before .before .before .before .before .before .before .before .before .before .feed-at in
-    let l = c .before .before .before .before .before .before .before .before .before .before .before .before .before .before .before .before .before .before .before .whole-line in
-    let w = c .before .before .before .answer-said in
-    let few = c .before .before .before .before .before .before .before .before .before .before .before .before .before .before .before .before .before .before .before .before .before .before .before .before .before .if2 .left in
-    let room = holds-room (c .before .before .before .before .before .before .before .before .before .before .before .before .before .before .before .before .before .before .before .before .before .before .before .before .before .before .before .has-room .result) _ (c .before .before .before .before .before .before .before .before .before .before .before .before .before .before .before .before .before .before .before .before .before .before .before .before .before .before .before .has-room .ensures) (c .before .before .before .before .before .before .before .before .before .before .before .before .before .before .before .before .before .before .before .before .before .before .before .before .before .before .if1 .left) in
-    let y = c .before .before .before .before .before .before .before .line-reply in
-    let run : Running = running (v .desk) (v .tally) (v .line) in
-    let b : Book = bookOf (v .desk) (v .inbox) (v .outbox) (v .history) in
-    let p : Page = page (v .out) (v .at) in
-    let r : Stepped = steppedOf (v .desk) (y .result) (w .result .at) in
-    let tells : told (y .result) ≡ plain (lineReplyNumber b (l .result)) = rw (y .ensures, c .before .before .before .before .before .before .before .before .before .before .before .before .before .before .before .before .counts-of .ensures) in
-    let said = all-said b (y .result) (l .result) tells (sym (c .before .before .before .before .before .before .says-all .ensures) ∙ c .before .before .before .before .before .if4 .taken) in
-    let e = said-replied run (v .inbox) (v .outbox) (v .history) (l .result) (y .result) p (w .result .at) (w .last .1 .1 .0) said (w .ensures .1) in (
-      so-line _ _ _ _ _ _ _ _ _ _ _ (v .inv .0) few room (from-on (a .chunk .now) (v .k)) (n .result) (n .ensures) (c .before .before .before .before .before .before .before .before .before .before .before .before .before .before .before .before .before .before .before .before .before .before .if3 .left) (l .result) (l .ensures) (running (v .desk) (w .result .tally) (v .line + 1)) (w .result .at) (v .inbox) (v .outbox) (v .history) (l .last .0) (w .last .1 .1 .0) (search needs)
-          (line-answered run (v .inbox) (v .outbox) (v .history) (l .result) p r (v .inbox) (v .outbox) (v .history) (w .last .1 .1 .0) e (w .result .tally) (w .ensures .0))
-          (line-text run (v .inbox) (v .outbox) (v .history) (l .result) p r (v .inbox) (v .outbox) (v .history) (w .last .1 .1 .0) e (w .result .tally) (w .ensures .0))
-          (line-counted run (v .inbox) (v .outbox) (v .history) (l .result) p r (v .inbox) (v .outbox) (v .history) (w .last .1 .1 .0) e (w .result .tally) (w .ensures .0) (v .inv .0 .ready .counted) few),
+    let a = c .before .before .before .before .before .before .before .before .before .before .before .before .before .before .before .before .before .before .before .before .before .before .before .before .before .before .before .before .before .before .before .before .before .before .args in
+    let v = c .before .before .before .before .before .before .before .before .before .before .before .before .before .before .before .before .before .before .before .before .before .before .before .before .loop in
+    let n = c .before .before .before .before .before .before .before .before .before .before .before .before .before .before .before .before .before .feed-at in
+    let l = c .before .before .before .before .before .before .before .before .before .before .before .before .before .whole-line in
+    let m = c .match in
+    let few = c .before .before .before .before .before .before .before .before .before .before .before .before .before .before .before .before .before .before .before .if2 .left in
+    let room = holds-room (c .before .before .before .before .before .before .before .before .before .before .before .before .before .before .before .before .before .before .before .before .before .before .has-room .result) _ (c .before .before .before .before .before .before .before .before .before .before .before .before .before .before .before .before .before .before .before .before .before .before .has-room .ensures) (c .before .before .before .before .before .before .before .before .before .before .before .before .before .before .before .before .before .before .before .before .before .if1 .left) in
+    let t = turned c in
+    let r : After = record { desk = m .desk; written = m .w } in
+    let p : Page = page (v .out) (v .w .at) in (
+      so-line _ _ _ _ _ _ _ _ _ _ _ (v .inv .0) few room (from-on (a .chunk .now) (v .k)) (n .result) (n .ensures) (c .before .before .before .before .before .before .before .before .before .before .before .before .before .before .before .before .if3 .left) (l .result) (l .ensures) (runningOf (m .desk) (m .w)) (m .w .at) (m .inbox) (m .outbox) (m .history) (l .last .0) (m .out) (search needs)
+          (line-answered (v .desk) (v .w) (v .inbox) (v .outbox) (v .history) (l .result) p r (m .inbox) (m .outbox) (m .history) (m .out) (t .leaves)) (t .leaves .text)
+          (line-counted (v .desk) (v .w) (v .inbox) (v .outbox) (v .history) (l .result) p r (m .inbox) (m .outbox) (m .history) (m .out) (t .leaves) (v .inv .0 .ready .counted) few),
+      t .inbox ∙ v .inv .1,
+      t .outbox ∙ v .inv .2,
+      t .history ∙ v .inv .3,
       search needs,
-      search needs,
-      search needs,
-      search needs,
-      search needs,
-      λ z. absurd (omega (arith, z)),
-    )
-
-answer-line-requires : tie.Need-answer-line-requires Inv-loop μ-loop
-answer-line-requires c κs =
-    let v = c .before .before .before .before .before .before .before .before .before .before .before .before .before .before .before .before .before .before .before .before .before .before .before .before .before .before .before .before .loop in
-    let l = c .before .before .before .before .before .before .before .before .before .before .before .before .before .before .before .before .before .before .whole-line in
-    let y = c .before .before .before .before .before .before .line-reply in
-    let tells : told (y .result) ≡ plain (lineReplyNumber (bookOf (v .desk) (v .inbox) (v .outbox) (v .history)) (l .result)) = rw (y .ensures, c .before .before .before .before .before .before .before .before .before .before .before .before .before .before .before .counts-of .ensures) in
-    (v .inv .0 .ready .counted, (c .before .before .before .before .before .before .before .before .before .before .before .before .before .before .before .before .before .before .before .before .before .before .before .before .if2 .left, line-accepted _ (l .result) (y .result) tells (sym (c .before .before .before .before .before .says-all .ensures) ∙ c .before .before .before .before .if4 .left)))
-
-add-k-3 : tie.Need-add-k-3 Inv-loop μ-loop
-add-k-3 c =
-    let first = c .before .before .before .before .before .before .before .before .before .before .before .before .before .before .before .before .before .before .before .before .before .before .before .before .before .before .before .before .before .before .before .before .before .before .before .before .before .before .before .before .before .before .before .before .before .before .before .before .before .before in
-    let known = c .before .before .before .before .before .before .before .before .before .before .before .before .before .before .before .before .before .before .before .before .before .before .before .before .before .before .before .before .before .before .before .before .before .before .before .before .before .before .before .before .before .before .before .before .shared-slice-known .given in
-    let i = c .before .before .before .before .before .before .before .before .before .before .before .before .before .before .before .before .before .before .before .before .before .before .before .before .before .before .before .before .before .before .before .before .before .if3 .left in
-    let v = c .before .before .before .before .before .before .before .before .before .before .before .before .before .before .before .before .before .before .before .before .before .before .before .before .before .before .before .before .before .before .before .before .before .before .before .before .before .before .before .before .loop in
-    let rest = rest-length (c .before .before .before .before .before .before .before .before .before .before .before .before .before .before .before .before .before .before .before .before .before .before .before .before .before .before .before .before .before .before .before .before .before .before .before .before .before .before .before .before .before .before .before .before .before .before .before .before .before .before .args .chunk .now) (v .k) (from-on (c .before .before .before .before .before .before .before .before .before .before .before .before .before .before .before .before .before .before .before .before .before .before .before .before .before .before .before .before .before .before .before .before .before .before .before .before .before .before .before .before .before .before .before .before .before .before .before .before .before .before .args .chunk .now) (v .k)) in
-    omega (arith, i, rest)
-
-add-k-4 : tie.Need-add-k-4 Inv-loop μ-loop
-add-k-4 c =
-    let first = c .before .before .before .before .before .before .before .before .before .before .before .before .before .before .before .before .before .before .before .before .before .before .before .before .before .before .before .before .before .before .before .before .before .before .before .before .before .before .before .before .before .before .before .before .before .before .before .before .before .before in
-    let known = c .before .before .before .before .before .before .before .before .before .before .before .before .before .before .before .before .before .before .before .before .before .before .before .before .before .before .before .before .before .before .before .before .before .before .before .before .before .before .before .before .before .before .before .before .shared-slice-known .given in
-    let i = c .before .before .before .before .before .before .before .before .before .before .before .before .before .before .before .before .before .before .before .before .before .before .before .before .before .before .before .before .before .before .before .before .before .if3 .left in
-    let v = c .before .before .before .before .before .before .before .before .before .before .before .before .before .before .before .before .before .before .before .before .before .before .before .before .before .before .before .before .before .before .before .before .before .before .before .before .before .before .before .before .loop in
-    let rest = rest-length (c .before .before .before .before .before .before .before .before .before .before .before .before .before .before .before .before .before .before .before .before .before .before .before .before .before .before .before .before .before .before .before .before .before .before .before .before .before .before .before .before .before .before .before .before .before .before .before .before .before .before .args .chunk .now) (v .k) (from-on (c .before .before .before .before .before .before .before .before .before .before .before .before .before .before .before .before .before .before .before .before .before .before .before .before .before .before .before .before .before .before .before .before .before .before .before .before .before .before .before .before .before .before .before .before .before .before .before .before .before .before .args .chunk .now) (v .k)) in
-    omega (arith, i, rest)
-
-loop-less-2 : tie.Need-loop-less-2 Inv-loop μ-loop
-loop-less-2 c =
-    let i = c .before .before .before .before .before .before .before .before .before .before .before .before .before .before .before .before .before .before .before .before .before .before .before .before .before .before .before .before .before .before .before .before .before .if3 .left in
-    let v = c .before .before .before .before .before .before .before .before .before .before .before .before .before .before .before .before .before .before .before .before .before .before .before .before .before .before .before .before .before .before .before .before .before .before .before .before .before .before .before .before .loop in
-    let here = c .before .before .before .before .before .before .before .before .before .before .before .before .before .before .before .before .before .before .before .before .before .before .before .before .before .before .before .before .before .before .before .before .before .before .before .before .before .before .before .loop-test .taken in
-    let rest = rest-length (c .before .before .before .before .before .before .before .before .before .before .before .before .before .before .before .before .before .before .before .before .before .before .before .before .before .before .before .before .before .before .before .before .before .before .before .before .before .before .before .before .before .before .before .before .before .before .before .before .before .before .args .chunk .now) (v .k) (from-on (c .before .before .before .before .before .before .before .before .before .before .before .before .before .before .before .before .before .before .before .before .before .before .before .before .before .before .before .before .before .before .before .before .before .before .before .before .before .before .before .before .before .before .before .before .before .before .before .before .before .before .args .chunk .now) (v .k)) in
-    omega (arith, i, rest, here)
-
-loop-again-2 : tie.Need-loop-again-2 Inv-loop μ-loop
-loop-again-2 c =
-    let a = c .before .before .before .before .before .before .before .before .before .before .before .before .before .before .before .before .before .before .before .before .before .before .before .before .before .before .before .before .before .before .before .before .before .before .before .before .before .before .before .before .before .before .before .before .before .before .before .before .before .before .args in
-    let v = c .before .before .before .before .before .before .before .before .before .before .before .before .before .before .before .before .before .before .before .before .before .before .before .before .before .before .before .before .before .before .before .before .before .before .before .before .before .before .before .before .loop in
-    let n = c .before .before .before .before .before .before .before .before .before .before .before .before .before .before .before .before .before .before .before .before .before .before .before .before .before .before .before .before .before .before .before .before .before .before .feed-at in
-    let l = c .before .before .before .before .before .before .before .before .before .before .before .before .before .before .before .before .before .before .before .before .before .before .before .before .before .before .before .before .before .before .whole-line in
-    let w = c .before .before .before .before .before .before .before .before .before .before .before .answer-line in
-    let few = c .before .before .before .before .before .before .before .before .before .before .before .before .before .before .before .before .before .before .before .before .before .before .before .before .before .before .before .before .before .before .before .before .before .before .before .before .if2 .left in
-    let room = holds-room (c .before .before .before .before .before .before .before .before .before .before .before .before .before .before .before .before .before .before .before .before .before .before .before .before .before .before .before .before .before .before .before .before .before .before .before .before .before .before .has-room .result) _ (c .before .before .before .before .before .before .before .before .before .before .before .before .before .before .before .before .before .before .before .before .before .before .before .before .before .before .before .before .before .before .before .before .before .before .before .before .before .before .has-room .ensures) (c .before .before .before .before .before .before .before .before .before .before .before .before .before .before .before .before .before .before .before .before .before .before .before .before .before .before .before .before .before .before .before .before .before .before .before .before .before .if1 .left) in (
-      so-line _ _ _ _ _ _ _ _ _ _ _ (v .inv .0) few room (from-on (a .chunk .now) (v .k)) (n .result) (n .ensures) (c .before .before .before .before .before .before .before .before .before .before .before .before .before .before .before .before .before .before .before .before .before .before .before .before .before .before .before .before .before .before .before .before .before .if3 .left) (l .result) (l .ensures) (w .result .running) (w .result .at) (w .last .1 .0) (w .last .1 .1 .0) (w .last .1 .1 .1 .0) (l .last .0) (w .last .1 .1 .1 .1 .0) (search needs)
-          (w .ensures .0) (w .ensures .1 .0) (w .ensures .1 .1),
-      search needs,
-      search needs,
-      search needs,
-      search needs,
-      search needs,
+      t .page ∙ v .inv .5,
       λ z. absurd (omega (arith, z)),
     )
 
 so-far-requires-4 : tie.Need-so-far-requires-4 Inv-loop μ-loop
-so-far-requires-4 c κs = search needs
+so-far-requires-4 c = search needs
 
 same-length-16 : tie.Need-same-length-16 Inv-loop μ-loop
 same-length-16 c = search needs
@@ -315,7 +273,7 @@ returns-4 c =
     let a = c .before .before .before .before .before .before .before .before .before .before .before .before .args in
     let v = c .before .before .loop in
     let end = c .before .loop-test .left in
-    so-some (a .f) (a .inbox .now) (a .outbox .now) (a .history .now) (a .hold .now) (a .out .now) (a .chunk .now) (v .k) (as-fed (v .desk) (v .tally) (v .line) (v .held) (v .at)) (v .inbox) (v .outbox) (v .history) (v .hold) (v .out) (v .inv .0) (λ some room. omega (arith, end, some)) (c .so-far4 .result) (c .so-far4 .ensures)
+    so-some (a .f) (a .inbox .now) (a .outbox .now) (a .history .now) (a .hold .now) (a .out .now) (a .chunk .now) (v .k) (feedingOf (v .desk) (v .w) (v .held)) (v .inbox) (v .outbox) (v .history) (v .hold) (v .out) (v .inv .0) (λ some room. omega (arith, end, some)) (c .so-far4 .result) (c .so-far4 .ensures)
 
 pub run-some-spec : {M : Type 1} → statement M
 run-some-spec =
@@ -354,19 +312,15 @@ run-some-spec =
     slice-aggregate-whole-line
     whole-line-requires
     counts-of-requires
-    line-reply-requires
-    says-all-requires
+    hear-requires
+    enum-known-heard
     answer-said-requires
-    add-line
+    enum-known-heard-2
+    answer-call-requires
     add-k
     add-k-2
     loop-less
     loop-again
-    answer-line-requires
-    add-k-3
-    add-k-4
-    loop-less-2
-    loop-again-2
     so-far-requires-4
     same-length-16
     same-length-17
