@@ -15,6 +15,7 @@ use rules::calls::GrantFields;
 use rules::calls::SignFields;
 use rules::calls::TransferFields;
 use rules::calls::WithdrawalFields;
+use rules::desk::Counts;
 use rules::desk::Desk;
 use rules::rows::Deposit;
 use rules::rows::DepositNumber;
@@ -185,17 +186,20 @@ fn desk(book: u64) -> Desk {
     copy(&numbers, 144, &mut settled);
     let last = DepositNumber(numbers[152]);
     let next = Nonce(numbers[153]);
-    Desk {
-        balances,
-        holders,
-        lifetime,
-        settled,
+    let counts = Counts {
         last,
         next,
         unclaimed: numbers[154] as usize,
         payments: numbers[155] as usize,
         inflight: numbers[156] as usize,
         records: numbers[157] as usize,
+    };
+    Desk {
+        balances,
+        holders,
+        lifetime,
+        settled,
+        counts,
     }
 }
 
@@ -327,21 +331,22 @@ fn digest(so_far: u64, t: &[u64]) -> u64
 }
 
 fn desk_digest(d: Desk) -> u64 {
-    let last = d.last;
-    let next = d.next;
-    let counts = [
+    let counts = d.counts;
+    let last = counts.last;
+    let next = counts.next;
+    let numbers = [
         last.0,
         next.0,
-        d.unclaimed as u64,
-        d.payments as u64,
-        d.inflight as u64,
-        d.records as u64,
+        counts.unclaimed as u64,
+        counts.payments as u64,
+        counts.inflight as u64,
+        counts.records as u64,
     ];
     digest(
         digest(
             digest(digest(digest(0, &d.balances), &d.holders), &d.lifetime),
             &d.settled,
         ),
-        &counts,
+        &numbers,
     )
 }

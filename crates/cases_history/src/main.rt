@@ -9,6 +9,7 @@ use data::CASES;
 use libc::STDOUT_FILENO;
 use rules::answers::Answer;
 use rules::answers::Origin;
+use rules::desk::Counts;
 use rules::desk::Desk;
 use rules::rows::DepositNumber;
 use rules::rows::Lot;
@@ -54,17 +55,20 @@ fn value(n: u64) {
 fn desk(records: usize) -> Desk {
     let last = DepositNumber(0);
     let next = Nonce(0);
-    Desk {
-        balances: [0; 128],
-        holders: [1; 8],
-        lifetime: [0; 8],
-        settled: [0; 8],
+    let counts = Counts {
         last,
         next,
         unclaimed: 0,
         payments: 0,
         inflight: 0,
         records,
+    };
+    Desk {
+        balances: [0; 128],
+        holders: [1; 8],
+        lifetime: [0; 8],
+        settled: [0; 8],
+        counts,
     }
 }
 

@@ -68,13 +68,13 @@ unfolding answer
 lays b c y a d i o h p q l = rw (accepted-number b c y, p, q, ← l)
 
 -- ---- what is laid back into the history: one row more
-pub record-added : (b : Book) → Framed b → (r : Record) → b .desk .records < 1024
-    → lay recordShape (historyOf b ++ (r ∷ [])) (b .desk .records) (b .history) ≡ putAt (b .desk .records * 5) (recordShape .flat r) (b .history)
+pub record-added : (b : Book) → Framed b → (r : Record) → b .desk .counts .records < 1024
+    → lay recordShape (historyOf b ++ (r ∷ [])) (b .desk .counts .records) (b .history) ≡ putAt (b .desk .counts .records * 5) (recordShape .flat r) (b .history)
 unfolding edited editedTable RoomFor putAt
 record-added b f r h =
-    let e : suc (b .desk .records) * 5 ≡ b .desk .records * 5 + 5 = omega arith in
-    rw (le-leb (b .desk .records * 5 + 5) (length (b .history)) (omega arith))
-    (lay-edited recordShape recordSound (Edit.add r) (b .desk .records) (b .history) (omega arith))
+    let e : suc (b .desk .counts .records) * 5 ≡ b .desk .counts .records * 5 + 5 = omega arith in
+    rw (le-leb (b .desk .counts .records * 5 + 5) (length (b .history)) (omega arith))
+    (lay-edited recordShape recordSound (Edit.add r) (b .desk .counts .records) (b .history) (omega arith))
 
 -- done, for a call whose answer is a bare Done: the answer that was found is that
 pub lays-plain : (b : Book) (c : Call) → Accepted b c → (a : Answer) → told a ≡ plain (replyNumber b c) → told (doneAnswer (view b) c) ≡ plain 0 → piecesOf (view b) c ≡ []

@@ -16,7 +16,7 @@ use Rattle.rules.specs.Frame.{depositInLimits, paymentInLimits, numbersRise, no
 use Rattle.rules.proofs.Laying.{length-rows}
 use Rattle.tables.specs.Rows.{rowAt}
 use Rattle.tables.proofs.Rest.{passes, rest, rest-all, passes-fails, passes-goes, passes-end, cell, cell0}
-use Rattle.frames.specs.Parts.{inboxFrame, outboxFrame, listsFrame, countsFrame, countsOf}
+use Rattle.frames.specs.Parts.{inboxFrame, outboxFrame, listsFrame, countsFrame}
 use Rattle.frames.proofs.Laws.{two-by-two, and-left-comm}
 
 -- ---- the inbox
@@ -127,6 +127,6 @@ regroup c1 c2 c3 c4 c5 c6 c7 c8 c9 c10 c11 c12 c13 c14 c15 c16 c17 = simp (and-t
 
 pub frame-parts : (b : Book)
     → inFrame b
-    ≡ countsFrame (countsOf (b .desk)) (length (b .history)) && (listsFrame (b .desk .balances) (b .desk .holders) (b .desk .lifetime) (b .desk .settled) && (inboxFrame (b .inbox) (b .desk .unclaimed) (b .desk .last .0) && outboxFrame (b .outbox) (b .desk .payments) (b .desk .next .0)))
+    ≡ countsFrame (b .desk .counts) (length (b .history)) && (listsFrame (b .desk .balances) (b .desk .holders) (b .desk .lifetime) (b .desk .settled) && (inboxFrame (b .inbox) (b .desk .counts .unclaimed) (b .desk .counts .last .0) && outboxFrame (b .outbox) (b .desk .counts .payments) (b .desk .counts .next .0)))
 unfolding inFrame view countsFrame listsFrame inboxFrame outboxFrame
-frame-parts b = rw (take-append-drop (b .desk .inflight) (outboxOf b)) (regroup _ _ _ _ _ _ _ _ _ _ _ _ _ _ _ _ _)
+frame-parts b = rw (take-append-drop (b .desk .counts .inflight) (outboxOf b)) (regroup _ _ _ _ _ _ _ _ _ _ _ _ _ _ _ _ _)

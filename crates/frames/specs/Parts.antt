@@ -3,8 +3,7 @@ use Prim.Native.Nat.{ℕ}
 use mathlib.Core.Bool.{Bool, _&&_}
 use mathlib.Core.List.{List}
 use lib.Dec.{leb, eqb}
-use Rattle.rules.specs.declared.desk.Desk.{Desk}
-use Rattle.frames.specs.declared.Counts.{Counts}
+use Rattle.rules.specs.declared.desk.Counts.{Counts}
 use Rattle.rules.specs.Limits.{inboxRows, outboxRows, historyRows, highestNumber, highestNext, isMember}
 use Rattle.rules.specs.Lists.{all}
 use Rattle.rules.specs.Tables.{rowsOf, depositShape, paymentShape}
@@ -19,25 +18,6 @@ unfoldable pub outboxFrame : List ℕ → ℕ → ℕ → Bool
 outboxFrame t n next =
     hasRows paymentShape outboxRows t
     && (leb n outboxRows && (all paymentInLimits (rowsOf paymentShape n t) && noncesRise next (rowsOf paymentShape n t)))
-
--- a desk in its parts: its counts and counters, and the desk that has them and these lists
-abbrev pub countsOf : Desk → Counts
-countsOf d = record { last = d .last; next = d .next; unclaimed = d .unclaimed; payments = d .payments; inflight = d .inflight; records = d .records }
-
-abbrev pub deskWith : List ℕ → List ℕ → List ℕ → List ℕ → Counts → Desk
-deskWith balances holders lifetime settled c =
-    record {
-      balances = balances;
-      holders = holders;
-      lifetime = lifetime;
-      settled = settled;
-      last = c .last;
-      next = c .next;
-      unclaimed = c .unclaimed;
-      payments = c .payments;
-      inflight = c .inflight;
-      records = c .records;
-    }
 
 -- the desk's lists: balances and totals up to the ceiling, and holders that are members
 unfoldable pub listsFrame : List ℕ → List ℕ → List ℕ → List ℕ → Bool

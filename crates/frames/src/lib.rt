@@ -1,5 +1,6 @@
 // The frame test, every clause of document 01 but the history's, on any desk and any three tables.
 use desk::fields::is_within;
+use rules::desk::Counts;
 use rules::desk::Desk;
 use rules::limits::ASSETS;
 use rules::limits::CEILING;
@@ -13,8 +14,6 @@ use rules::limits::INBOX_SIZE;
 use rules::limits::MEMBERS;
 use rules::limits::OUTBOX_ROWS;
 use rules::limits::OUTBOX_SIZE;
-use rules::rows::DepositNumber;
-use rules::rows::Nonce;
 ghost use mathlib.Core.Path.{_≡_};
 ghost use mathlib.Core.Bool.{_&&_};
 ghost use lib.Dec.{leb, ltb, eqb};
@@ -22,32 +21,8 @@ ghost use Rattle.rules.specs.Limits.{within, isMember, isAsset, isAmount, isPay
 ghost use Rattle.rules.specs.Lists.{all};
 ghost use Rattle.rules.specs.Frame.{inFrame};
 ghost use Rattle.rules.specs.Answer.{bookOf};
-ghost use Rattle.frames.specs.Parts.{inboxFrame, outboxFrame, listsFrame, countsFrame, countsOf, deskWith};
-
-// The counts and the counters of a desk.
-pub struct Counts {
-    pub last: DepositNumber,
-    pub next: Nonce,
-    pub unclaimed: usize,
-    pub payments: usize,
-    pub inflight: usize,
-    pub records: usize,
-}
-
-pub fn counts_of(d: Desk) -> Counts
-    ensures { λ r. ⌜ r ≡ countsOf d ⌝ }
-{
-    let last = d.last;
-    let next = d.next;
-    Counts {
-        last,
-        next,
-        unclaimed: d.unclaimed,
-        payments: d.payments,
-        inflight: d.inflight,
-        records: d.records,
-    }
-}
+ghost use Rattle.desk.specs.Kept.{deskWith};
+ghost use Rattle.frames.specs.Parts.{inboxFrame, outboxFrame, listsFrame, countsFrame};
 
 // Whether a desk with these three tables is in frame. Its lists are lent one by one: handed on by value, the
 // desk would be copied for each test.
@@ -75,7 +50,7 @@ pub fn in_frame<'a>(
 pub fn framed(d: Desk, inbox: &[u64], outbox: &[u64], history: &[u64]) -> bool
     ensures { λ r. ⌜ r ≡ inFrame (bookOf d (now (inbox .entry)) (now (outbox .entry)) (now (history .entry))) ⌝ }
 {
-    let counts = counts_of(d);
+    let counts = d.counts;
     in_frame(
         &d.balances,
         &d.holders,

@@ -53,7 +53,7 @@ history-told history records rows places n s e =
 
 -- behind the frame's test it tells the number that the rules give
 pub trace-told : (b : Book) (rows places : ℕ) (n : Nonce) (a found : Answer)
-    → told found ≡ plain (smallest (historyRefusals (b .history) (b .desk .records) rows places (view b) n))
+    → told found ≡ plain (smallest (historyRefusals (b .history) (b .desk .counts .records) rows places (view b) n))
     → a ≡ cond (not (inFrame b)) (Answer.Refused Refusal.BadBook) found → told a ≡ plain (traceNumberFor b rows places n)
 unfolding traceNumberFor traceRefusals numberOf notBelow all
 trace-told b rows places n a found h p = go (inFrame b) refl p
@@ -87,7 +87,7 @@ module _ (b : Book) (work out : List Lot) (n : Nonce) (a : Answer) (tells : told
   done d = done-number a (traceNumberFor b (length work) (length out) n) tells d
 
   -- not refused: the history is one, and it can be traced
-  pub few-records : isDone a ≡ true → b .desk .records ≤ historyRows
+  pub few-records : isDone a ≡ true → b .desk .counts .records ≤ historyRows
   unfolding traceNumberFor traceRefusals view numberOf all
   few-records d =
       let rs : List (ℕ × Bool) = badHistory b ∷ traceRefusals (length work) (length out) (view b) n in
@@ -96,7 +96,7 @@ module _ (b : Book) (work out : List Lot) (n : Nonce) (a : Answer) (tells : told
       let f : Framed b = framed b (twice-not (inFrame b) u) in
       f .records
 
-  pub can-trace : isDone a ≡ true → (held : List Lot) → b .desk .records ≤ length held → CanTrace (b .history) (b .desk .records) (n .0) work held out
+  pub can-trace : isDone a ≡ true → (held : List Lot) → b .desk .counts .records ≤ length held → CanTrace (b .history) (b .desk .counts .records) (n .0) work held out
   unfolding traceNumberFor traceRefusals view numberOf all
   can-trace d held e =
       let rs : List (ℕ × Bool) = badHistory b ∷ traceRefusals (length work) (length out) (view b) n in
@@ -104,7 +104,7 @@ module _ (b : Book) (work out : List Lot) (n : Nonce) (a : Answer) (tells : told
       let no : (k : ℕ) → not (lib.ListN.getD rs k (1, false) .1) ≡ true = λ k. all-at (λ r. not (r .1)) rs k (1, false) refl none in
       let (u, v) = neither (not (inFrame b)) (not (historyInFrame (historyOf b))) (no 0) in
       let f : Framed b = framed b (twice-not (inFrame b) u) in
-      let count : length (historyOf b) ≡ b .desk .records = length-rows recordShape (b .desk .records) (b .history) in
+      let count : length (historyOf b) ≡ b .desk .counts .records = length-rows recordShape (b .desk .counts .records) (b .history) in
       let (w, p) = neither (ltb (length work) (length (historyOf b))) (ltb (length out) (length (historyOf b))) (no 1) in
       record {
         few = f .records;
@@ -115,7 +115,7 @@ module _ (b : Book) (work out : List Lot) (n : Nonce) (a : Answer) (tells : told
       }
 
   -- done: what was handed out and left
-  pub trace-done : isDone a ≡ true → (count : ℕ) (cleared laid : List Lot) → Traces (b .history) (b .desk .records) (n .0) work out count cleared laid
+  pub trace-done : isDone a ≡ true → (count : ℕ) (cleared laid : List Lot) → Traces (b .history) (b .desk .counts .records) (n .0) work out count cleared laid
       → traceOutcomeOf (Answer.Traced count) cleared laid ≡ traceAnswer b work out n
   unfolding traceAnswer
   trace-done d count cleared laid t = rw (sym number-is ∙ done d, t .counts, t .clears, t .lays)

@@ -27,7 +27,7 @@ pub(crate) fn reply_to(
     ensures { λ r. ⌜ told r ≡ plain (traceNumberFor (bookOf d (now (inbox .entry)) (now (outbox .entry)) (now (history .entry))) rows places n) ⌝ }
 {
     let is_framed = framed(d, inbox, outbox, history);
-    let own = history_reply(history, d.records, rows, places, n);
+    let own = history_reply(history, d.counts.records, rows, places, n);
     refuse(!is_framed, Refusal::BadBook, own)
 }
 

@@ -36,12 +36,12 @@ pub fn trace(
         number: DepositNumber(0),
         amount: 0,
     };
-    if d.records <= 32 {
+    if d.counts.records <= 32 {
         let mut held = [none; 32];
-        let count = traced(history, d.records, n.0, work, &mut held, pieces);
+        let count = traced(history, d.counts.records, n.0, work, &mut held, pieces);
         return Answer::Traced(count);
     }
     let mut held = [none; 1024];
-    let count = traced(history, d.records, n.0, work, &mut held, pieces);
+    let count = traced(history, d.counts.records, n.0, work, &mut held, pieces);
     Answer::Traced(count)
 }

@@ -82,19 +82,19 @@ unfolding view
 can-deposit b x a =
     let f : Framed b = framed b (accepted-frame b (Call.Deposit x) a) in
     let q : DepositFit (view b) x = fit b (Call.Deposit x) a in
-    let l : length (inboxOf b) ≡ b .desk .unclaimed = length-rows depositShape (b .desk .unclaimed) (b .inbox) in
+    let l : length (inboxOf b) ≡ b .desk .counts .unclaimed = length-rows depositShape (b .desk .counts .unclaimed) (b .inbox) in
     record { asset = q .asset; amount = q .amount .high; lifetime = f .lifetime; unclaimed = omega (arith, roomy b (Call.Deposit x) a .room) }
 
 -- one deposit more at the end of the inbox
-deposit-added : (b : Book) (x : Deposit) → Framed b → b .desk .unclaimed < 64
-    → lay depositShape (inboxOf b ++ (x ∷ [])) (b .desk .unclaimed) (b .inbox) ≡ putAt (b .desk .unclaimed * 4) (depositShape .flat x) (b .inbox)
+deposit-added : (b : Book) (x : Deposit) → Framed b → b .desk .counts .unclaimed < 64
+    → lay depositShape (inboxOf b ++ (x ∷ [])) (b .desk .counts .unclaimed) (b .inbox) ≡ putAt (b .desk .counts .unclaimed * 4) (depositShape .flat x) (b .inbox)
 unfolding edited editedTable RoomFor putAt
 deposit-added b x f h =
-    rw (le-leb (b .desk .unclaimed * 4 + 4) (length (b .inbox)) (omega arith))
-    (lay-edited depositShape depositSound (Edit.add x) (b .desk .unclaimed) (b .inbox) (omega arith))
+    rw (le-leb (b .desk .counts .unclaimed * 4 + 4) (length (b .inbox)) (omega arith))
+    (lay-edited depositShape depositSound (Edit.add x) (b .desk .counts .unclaimed) (b .inbox) (omega arith))
 
-pub deposit-laid : (b : Book) (x : Deposit) → Framed b → b .desk .unclaimed < 64
-    → bookOf (depositedDesk (b .desk) x) (putAt (b .desk .unclaimed * 4) (x .number .0 ∷ x .asset ∷ x .amount ∷ x .member ∷ []) (b .inbox)) (b .outbox) (b .history)
+pub deposit-laid : (b : Book) (x : Deposit) → Framed b → b .desk .counts .unclaimed < 64
+    → bookOf (depositedDesk (b .desk) x) (putAt (b .desk .counts .unclaimed * 4) (x .number .0 ∷ x .asset ∷ x .amount ∷ x .member ∷ []) (b .inbox)) (b .outbox) (b .history)
     ≡ done (Call.Deposit x) b
 unfolding laid deskOf effect balancesAfter holdersAfter inboxEdit edited outsideAfter deposited recordsOf depositedDesk view
 deposit-laid b x f h =
@@ -127,9 +127,9 @@ place-rows c (suc n) t h =
     let l : length (take 4 t) ≡ 4 = length-take-le 4 t (omega arith) in
     rw (row-matches c (take 4 t) l, place-rows c n (drop 4 t) (rw length-drop (omega arith)))
 
-pub place-is : (b : Book) (c : ClaimFields) → Framed b → placeOf (rowOf c) (b .desk .unclaimed) (b .inbox) ≡ indexOf (matches c) (inboxOf b)
+pub place-is : (b : Book) (c : ClaimFields) → Framed b → placeOf (rowOf c) (b .desk .counts .unclaimed) (b .inbox) ≡ indexOf (matches c) (inboxOf b)
 unfolding placeOf
-place-is b c f = rw (le-leb (b .desk .unclaimed * 4) (length (b .inbox)) (omega arith)) (place-rows c (b .desk .unclaimed) (b .inbox) (omega arith))
+place-is b c f = rw (le-leb (b .desk .counts .unclaimed * 4) (length (b .inbox)) (omega arith)) (place-rows c (b .desk .counts .unclaimed) (b .inbox) (omega arith))
 
 -- ---- claim
 abbrev pub claimEntries : Bool → ℕ → ClaimFields → List Entry
@@ -147,11 +147,11 @@ unfolding refusals fulls full numberOf notBelow all
 claim-told waits records c s p q = rw (p, q) (chain-told (claimEntries waits records c) refl)
 
 -- in frame, a deposit is found in the table where one of the state matches
-pub waits-is : (b : Book) (c : ClaimFields) → Framed b → any (matches c) (view b .inbox) ≡ isUnclaimed c (b .desk .unclaimed) (b .inbox)
+pub waits-is : (b : Book) (c : ClaimFields) → Framed b → any (matches c) (view b .inbox) ≡ isUnclaimed c (b .desk .counts .unclaimed) (b .inbox)
 unfolding view
 waits-is b c f =
-    let e : eqb (placeOf (rowOf c) (b .desk .unclaimed) (b .inbox)) (b .desk .unclaimed) ≡ not (any (matches c) (inboxOf b)) =
-    rw (place-is b c f, none-found (matches c) (inboxOf b), length-rows depositShape (b .desk .unclaimed) (b .inbox)) in
+    let e : eqb (placeOf (rowOf c) (b .desk .counts .unclaimed) (b .inbox)) (b .desk .counts .unclaimed) ≡ not (any (matches c) (inboxOf b)) =
+    rw (place-is b c f, none-found (matches c) (inboxOf b), length-rows depositShape (b .desk .counts .unclaimed) (b .inbox)) in
     twice (any (matches c) (inboxOf b)) ∙ ap not (sym e)
   where
     twice : (t : Bool) → t ≡ not (not t)
@@ -159,11 +159,11 @@ waits-is b c f =
     twice false = refl
 
 -- the place of a claimed deposit is one of the used rows
-pub claim-place : (b : Book) (c : ClaimFields) → Accepted b (Call.Claim c) → indexOf (matches c) (inboxOf b) < b .desk .unclaimed
+pub claim-place : (b : Book) (c : ClaimFields) → Accepted b (Call.Claim c) → indexOf (matches c) (inboxOf b) < b .desk .counts .unclaimed
 unfolding view
 claim-place b c a =
     let q : ClaimFit (view b) c = fit b (Call.Claim c) a in
-    let l : length (inboxOf b) ≡ b .desk .unclaimed = length-rows depositShape (b .desk .unclaimed) (b .inbox) in
+    let l : length (inboxOf b) ≡ b .desk .counts .unclaimed = length-rows depositShape (b .desk .counts .unclaimed) (b .inbox) in
     omega (arith, index-found (matches c) (inboxOf b) (q .found))
 
 pub can-claim : (b : Book) (c : ClaimFields) → Accepted b (Call.Claim c) → CanClaim (b .desk) c
@@ -171,7 +171,7 @@ unfolding view
 can-claim b c a =
     let f : Framed b = framed b (accepted-frame b (Call.Claim c) a) in
     let q : ClaimFit (view b) c = fit b (Call.Claim c) a in
-    let l : length (historyOf b) ≡ b .desk .records = length-rows recordShape (b .desk .records) (b .history) in
+    let l : length (historyOf b) ≡ b .desk .counts .records = length-rows recordShape (b .desk .counts .records) (b .history) in
     record {
       member = q .member;
       asset = q .asset;
@@ -182,23 +182,23 @@ can-claim b c a =
     }
 
 -- the claimed row leaves: "the rest keeping their order", and the last used row becomes zeros
-claim-taken : (b : Book) (i : ℕ) → Framed b → i < b .desk .unclaimed
-    → lay depositShape (edited (Edit.takeOut i) (inboxOf b)) (b .desk .unclaimed) (b .inbox) ≡ takenOut 4 i (b .desk .unclaimed) (b .inbox)
+claim-taken : (b : Book) (i : ℕ) → Framed b → i < b .desk .counts .unclaimed
+    → lay depositShape (edited (Edit.takeOut i) (inboxOf b)) (b .desk .counts .unclaimed) (b .inbox) ≡ takenOut 4 i (b .desk .counts .unclaimed) (b .inbox)
 unfolding editedTable RoomFor takenOut
 claim-taken b i f h =
-    rw (le-leb (b .desk .unclaimed * 4) (length (b .inbox)) (omega arith), lt-ltb i (b .desk .unclaimed) h)
-    (lay-edited depositShape depositSound (Edit.takeOut i) (b .desk .unclaimed) (b .inbox) (h, omega arith))
+    rw (le-leb (b .desk .counts .unclaimed * 4) (length (b .inbox)) (omega arith), lt-ltb i (b .desk .counts .unclaimed) h)
+    (lay-edited depositShape depositSound (Edit.takeOut i) (b .desk .counts .unclaimed) (b .inbox) (h, omega arith))
 
-claim-count : (b : Book) (i : ℕ) → i < b .desk .unclaimed → length (edited (Edit.takeOut i) (inboxOf b)) ≡ b .desk .unclaimed - 1
+claim-count : (b : Book) (i : ℕ) → i < b .desk .counts .unclaimed → length (edited (Edit.takeOut i) (inboxOf b)) ≡ b .desk .counts .unclaimed - 1
 unfolding edited
 claim-count b i h =
-    let l : length (inboxOf b) ≡ b .desk .unclaimed = length-rows depositShape (b .desk .unclaimed) (b .inbox) in
+    let l : length (inboxOf b) ≡ b .desk .counts .unclaimed = length-rows depositShape (b .desk .counts .unclaimed) (b .inbox) in
     length-append (take i (inboxOf b)) (drop (suc i) (inboxOf b))
     ∙ rw (length-take-le i (inboxOf b) (omega arith), length-drop (suc i) (inboxOf b), l) (omega arith)
 
-pub claim-laid : (b : Book) (c : ClaimFields) → Framed b → indexOf (matches c) (inboxOf b) < b .desk .unclaimed → b .desk .records < 1024
-    → bookOf (claimedDesk (b .desk) c) (takenOut 4 (indexOf (matches c) (inboxOf b)) (b .desk .unclaimed) (b .inbox)) (b .outbox)
-    (putAt (b .desk .records * 5) (1 ∷ c .asset ∷ c .amount ∷ c .member ∷ c .number .0 ∷ []) (b .history))
+pub claim-laid : (b : Book) (c : ClaimFields) → Framed b → indexOf (matches c) (inboxOf b) < b .desk .counts .unclaimed → b .desk .counts .records < 1024
+    → bookOf (claimedDesk (b .desk) c) (takenOut 4 (indexOf (matches c) (inboxOf b)) (b .desk .counts .unclaimed) (b .inbox)) (b .outbox)
+    (putAt (b .desk .counts .records * 5) (1 ∷ c .asset ∷ c .amount ∷ c .member ∷ c .number .0 ∷ []) (b .history))
     ≡ done (Call.Claim c) b
 unfolding laid deskOf effect balancesAfter holdersAfter inboxEdit outsideAfter recordsOf claimedDesk view
 claim-laid b c f h k =

@@ -5,7 +5,6 @@ use mathlib.Core.Bool.{Bool, true, not, _||_}
 use mathlib.Core.List.{List, [], _∷_}
 use lib.Dec.{ltb, eqb}
 use Rattle.rules.specs.declared.rows.Deposit.{Deposit}
-use Rattle.rules.specs.declared.rows.DepositNumber.{DepositNumber}
 use Rattle.rules.specs.declared.desk.Desk.{Desk}
 use Rattle.rules.specs.declared.calls.ClaimFields.{ClaimFields}
 use Rattle.rules.specs.Limits.{ceiling, highestNumber}
@@ -14,45 +13,19 @@ use Rattle.rules.specs.Frame.{upToCeiling}
 use Rattle.rules.specs.Effects.{raised, credit}
 use Rattle.rules.specs.Facts.{Within}
 use Rattle.tables.specs.Rows.{placeOf}
-use Rattle.desk.specs.Kept.{withLists, withCounts}
-
--- the desk with another last number
-abbrev pub withLast : Desk → DepositNumber → Desk
-withLast d n =
-    record {
-      balances = d .balances;
-      holders = d .holders;
-      lifetime = d .lifetime;
-      settled = d .settled;
-      last = n;
-      next = d .next;
-      unclaimed = d .unclaimed;
-      payments = d .payments;
-      inflight = d .inflight;
-      records = d .records;
-    }
+use Rattle.desk.specs.Kept.{deskWith, withLast, withRows}
 
 -- the asset's lifetime deposits grow, the number is the last accepted, and there is one unclaimed deposit more
 unfoldable pub depositedDesk : Desk → Deposit → Desk
 depositedDesk d x =
-    withLast
-    (withCounts
-    (withLists d (d .balances) (d .holders) (raised (d .lifetime) (x .asset) (x .amount)) (d .settled))
-    (d .unclaimed + 1)
-    (d .payments)
-    (d .inflight)
-    (d .records))
-    (x .number)
+    deskWith (d .balances) (d .holders) (raised (d .lifetime) (x .asset) (x .amount)) (d .settled)
+    (withLast (withRows (d .counts) (d .counts .unclaimed + 1) (d .counts .payments) (d .counts .inflight) (d .counts .records)) (x .number))
 
 -- the balance grows, there is one unclaimed deposit fewer and one record more
 unfoldable pub claimedDesk : Desk → ClaimFields → Desk
 claimedDesk d c =
-    withCounts
-    (withLists d (credit (d .balances) (c .member) (c .asset) (c .amount)) (d .holders) (d .lifetime) (d .settled))
-    (d .unclaimed - 1)
-    (d .payments)
-    (d .inflight)
-    (d .records + 1)
+    deskWith (credit (d .balances) (c .member) (c .asset) (c .amount)) (d .holders) (d .lifetime) (d .settled)
+    (withRows (d .counts) (d .counts .unclaimed - 1) (d .counts .payments) (d .counts .inflight) (d .counts .records + 1))
 
 -- a claim's four numbers as the row that it looks for
 abbrev pub rowOf : ClaimFields → List ℕ
@@ -75,12 +48,12 @@ pub record CanDeposit (d : Desk) (x : Deposit) : Type 0 where
   pub asset : Within 1 8 (x .asset)
   pub amount : x .amount ≤ ceiling
   pub lifetime : all upToCeiling (d .lifetime) ≡ true
-  pub unclaimed : d .unclaimed < 64
+  pub unclaimed : d .counts .unclaimed < 64
 
 pub record CanClaim (d : Desk) (c : ClaimFields) : Type 0 where
   pub member : Within 1 16 (c .member)
   pub asset : Within 1 8 (c .asset)
   pub amount : c .amount ≤ ceiling
   pub balances : all upToCeiling (d .balances) ≡ true
-  pub unclaimed : 1 ≤ d .unclaimed
-  pub records : d .records < 1024
+  pub unclaimed : 1 ≤ d .counts .unclaimed
+  pub records : d .counts .records < 1024

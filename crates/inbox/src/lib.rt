@@ -45,8 +45,9 @@ pub fn deposit(d: Desk, inbox: &mut [u64], outbox: &[u64], history: &[u64], x: D
     ensures { λ r. ⌜ outcomeOf r (now (inbox .exit)) (now (outbox .entry)) (now (history .entry)) ≡ answer (bookOf d (now (inbox .entry)) (now (outbox .entry)) (now (history .entry))) (Call.Deposit x) ⌝ }
 {
     let is_framed = framed(d, inbox, outbox, history);
-    let last = d.last;
-    let found = deposit_reply(&d.lifetime, last, d.unclaimed, x);
+    let counts = d.counts;
+    let last = counts.last;
+    let found = deposit_reply(&d.lifetime, last, counts.unclaimed, x);
     let reply = refuse(!is_framed, Refusal::BadBook, found);
     if !is_done(reply) {
         return Answered {
@@ -68,7 +69,7 @@ pub fn deposit_done(
     requires { ⌜ Accepted (bookOf d (now inbox) (now outbox) (now history)) (Call.Deposit x) ⌝ }
     ensures { λ r. ⌜ outcomeOf r (now (inbox .exit)) (now (outbox .entry)) (now (history .entry)) ≡ answer (bookOf d (now (inbox .entry)) (now (outbox .entry)) (now (history .entry))) (Call.Deposit x) ⌝ }
 {
-    put_deposit(inbox, d.unclaimed, x);
+    put_deposit(inbox, d.counts.unclaimed, x);
     let desk = deposited(d, x);
     Answered {
         answer: Answer::Done,
@@ -129,8 +130,10 @@ fn deposited(d: Desk, x: Deposit) -> Desk
     let more = of_eight(&next.lifetime, x.asset) + x.amount;
     set_of_eight(&mut next.lifetime, x.asset, more);
     let number = x.number;
-    next.last = number;
-    next.unclaimed = d.unclaimed + 1;
+    let mut counts = d.counts;
+    counts.last = number;
+    counts.unclaimed += 1;
+    next.counts = counts;
     next
 }
 
@@ -146,8 +149,8 @@ pub fn claim(
     ensures { λ r. ⌜ outcomeOf r (now (inbox .exit)) (now (outbox .entry)) (now (history .exit)) ≡ answer (bookOf d (now (inbox .entry)) (now (outbox .entry)) (now (history .entry))) (Call.Claim c) ⌝ }
 {
     let is_framed = framed(d, inbox, outbox, history);
-    let waits = is_unclaimed(inbox, d.unclaimed, c);
-    let found = claim_reply(waits, d.records, c);
+    let waits = is_unclaimed(inbox, d.counts.unclaimed, c);
+    let found = claim_reply(waits, d.counts.records, c);
     let answer = refuse(!is_framed, Refusal::BadBook, found);
     if !is_done(answer) {
         return Answered { answer, desk: d };
@@ -168,8 +171,8 @@ pub fn claim_done(
 {
     let number = c.number;
     let row = [number.0, c.asset, c.amount, c.member];
-    let place = find_row(inbox, d.unclaimed, &row);
-    take_out(inbox, DEPOSIT_WIDTH, place, d.unclaimed);
+    let place = find_row(inbox, d.counts.unclaimed, &row);
+    take_out(inbox, DEPOSIT_WIDTH, place, d.counts.unclaimed);
     let entry = Record {
         kind: 1,
         asset: c.asset,
@@ -177,7 +180,7 @@ pub fn claim_done(
         first: c.member,
         second: number.0,
     };
-    put_record(history, d.records, entry);
+    put_record(history, d.counts.records, entry);
     let desk = claimed(d, c);
     Answered {
         answer: Answer::Done,
@@ -214,7 +217,9 @@ fn claimed(d: Desk, c: ClaimFields) -> Desk
     let mut next = d;
     let more = balance_of(&next.balances, c.member, c.asset) + c.amount;
     set_balance(&mut next.balances, c.member, c.asset, more);
-    next.unclaimed = d.unclaimed - 1;
-    next.records = d.records + 1;
+    let mut counts = d.counts;
+    counts.unclaimed -= 1;
+    counts.records += 1;
+    next.counts = counts;
     next
 }

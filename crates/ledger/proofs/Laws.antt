@@ -56,7 +56,7 @@ unfolding view
 can-transfer b t a =
     let f : Framed b = framed b (accepted-frame b (Call.Transfer t) a) in
     let q : TransferFit (view b) t = fit b (Call.Transfer t) a in
-    let l : length (historyOf b) ≡ b .desk .records = length-rows recordShape (b .desk .records) (b .history) in
+    let l : length (historyOf b) ≡ b .desk .counts .records = length-rows recordShape (b .desk .counts .records) (b .history) in
     record {
       from = q .from;
       to = q .to;
@@ -67,8 +67,8 @@ can-transfer b t a =
       records = omega (arith, roomy b (Call.Transfer t) a .room);
     }
 
-pub transfer-laid : (b : Book) (t : TransferFields) → Framed b → b .desk .records < 1024
-    → bookOf (transferredDesk (b .desk) t) (b .inbox) (b .outbox) (putAt (b .desk .records * 5) (2 ∷ t .asset ∷ t .amount ∷ t .from ∷ t .to ∷ []) (b .history))
+pub transfer-laid : (b : Book) (t : TransferFields) → Framed b → b .desk .counts .records < 1024
+    → bookOf (transferredDesk (b .desk) t) (b .inbox) (b .outbox) (putAt (b .desk .counts .records * 5) (2 ∷ t .asset ∷ t .amount ∷ t .from ∷ t .to ∷ []) (b .history))
     ≡ done (Call.Transfer t) b
 unfolding laid deskOf effect balancesAfter holdersAfter inboxEdit edited outsideAfter recordsOf transferredDesk view
 transfer-laid b t f h =
@@ -110,11 +110,11 @@ pub can-grant : (b : Book) (g : GrantFields) → Accepted b (Call.Grant g) → C
 unfolding view
 can-grant b g a =
     let q : GrantFit (view b) g = fit b (Call.Grant g) a in
-    let l : length (historyOf b) ≡ b .desk .records = length-rows recordShape (b .desk .records) (b .history) in
+    let l : length (historyOf b) ≡ b .desk .counts .records = length-rows recordShape (b .desk .counts .records) (b .history) in
     record { domain = q .domain; records = omega (arith, roomy b (Call.Grant g) a .room) }
 
-pub grant-laid : (b : Book) (g : GrantFields) → Framed b → b .desk .records < 1024
-    → bookOf (grantedDesk (b .desk) g) (b .inbox) (b .outbox) (putAt (b .desk .records * 5) (4 ∷ g .domain ∷ 1 ∷ g .from ∷ g .to ∷ []) (b .history))
+pub grant-laid : (b : Book) (g : GrantFields) → Framed b → b .desk .counts .records < 1024
+    → bookOf (grantedDesk (b .desk) g) (b .inbox) (b .outbox) (putAt (b .desk .counts .records * 5) (4 ∷ g .domain ∷ 1 ∷ g .from ∷ g .to ∷ []) (b .history))
     ≡ done (Call.Grant g) b
 unfolding laid deskOf effect balancesAfter holdersAfter inboxEdit edited outsideAfter recordsOf grantedDesk view
 grant-laid b g f h =

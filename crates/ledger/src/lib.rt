@@ -44,7 +44,7 @@ pub fn transfer(
     ensures { λ r. ⌜ outcomeOf r (now (inbox .entry)) (now (outbox .entry)) (now (history .exit)) ≡ answer (bookOf d (now (inbox .entry)) (now (outbox .entry)) (now (history .entry))) (Call.Transfer t) ⌝ }
 {
     let is_framed = framed(d, inbox, outbox, history);
-    let found = transfer_reply(&d.balances, d.records, t);
+    let found = transfer_reply(&d.balances, d.counts.records, t);
     let reply = refuse(!is_framed, Refusal::BadBook, found);
     if !is_done(reply) {
         return Answered {
@@ -73,7 +73,7 @@ pub fn transfer_done(
         first: t.from,
         second: t.to,
     };
-    put_record(history, d.records, entry);
+    put_record(history, d.counts.records, entry);
     let desk = transferred(d, t);
     Answered {
         answer: Answer::Done,
@@ -108,7 +108,9 @@ fn transferred(d: Desk, t: TransferFields) -> Desk
     set_balance(&mut next.balances, t.from, t.asset, less);
     let more = balance_of(&next.balances, t.to, t.asset) + t.amount;
     set_balance(&mut next.balances, t.to, t.asset, more);
-    next.records = d.records + 1;
+    let mut counts = d.counts;
+    counts.records += 1;
+    next.counts = counts;
     next
 }
 
@@ -123,7 +125,7 @@ pub fn grant(
     ensures { λ r. ⌜ outcomeOf r (now (inbox .entry)) (now (outbox .entry)) (now (history .exit)) ≡ answer (bookOf d (now (inbox .entry)) (now (outbox .entry)) (now (history .entry))) (Call.Grant g) ⌝ }
 {
     let is_framed = framed(d, inbox, outbox, history);
-    let found = grant_reply(&d.holders, d.records, g);
+    let found = grant_reply(&d.holders, d.counts.records, g);
     let answer = refuse(!is_framed, Refusal::BadBook, found);
     if !is_done(answer) {
         return Answered { answer, desk: d };
@@ -149,7 +151,7 @@ pub fn grant_done(
         first: g.from,
         second: g.to,
     };
-    put_record(history, d.records, entry);
+    put_record(history, d.counts.records, entry);
     let desk = granted(d, g);
     Answered {
         answer: Answer::Done,
@@ -176,7 +178,9 @@ fn granted(d: Desk, g: GrantFields) -> Desk
 {
     let mut next = d;
     set_of_eight(&mut next.holders, g.domain, g.to);
-    next.records = d.records + 1;
+    let mut counts = d.counts;
+    counts.records += 1;
+    next.counts = counts;
     next
 }
 

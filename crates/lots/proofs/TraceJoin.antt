@@ -28,7 +28,7 @@ use Rattle.rules.proofs.Tests.{ands-at}
 -- a book in frame has at most as many records as the table has rows
 pub records-fit : (b : Book) → inFrame b ≡ true → length (historyOf b) ≤ historyRows
 unfolding inFrame
-records-fit b h = rw (length-rows recordShape (b .desk .records) (b .history)) (leb-true (b .desk .records) historyRows (ands-at _ 5 h))
+records-fit b h = rw (length-rows recordShape (b .desk .counts .records) (b .history)) (leb-true (b .desk .counts .records) historyRows (ands-at _ 5 h))
 
 -- out of frame comes first
 frame-first : (t u : Bool) → smallest ((2, true) ∷ (20, t) ∷ (21, u) ∷ []) ≡ 2

@@ -31,7 +31,7 @@ use Rattle.rules.proofs.Tests.{both, within-true, true-within, all-at}
 use Rattle.rules.proofs.Accepts.{fit, roomy, accepted-frame}
 use Rattle.tables.specs.Rows.{putAt, takenOut}
 use Rattle.desk.specs.Parts.{ofEight}
-use Rattle.frames.specs.Parts.{countsFrame, countsOf, listsFrame, inboxFrame, outboxFrame}
+use Rattle.frames.specs.Parts.{countsFrame, listsFrame, inboxFrame, outboxFrame}
 use Rattle.frames.proofs.Frames.{frame-parts}
 use Rattle.desk.proofs.Chains.{Entry, chain, notBelow, chain-told}
 use Rattle.rules.proofs.Books.{Framed, framed, inbox-kept, outbox-kept, history-kept, payments-are, inbox-count, outbox-count, flight-count, history-count}
@@ -58,16 +58,16 @@ oldest-row (suc n) at t h =
 
 module _ (b : Book) (f : Framed b) where
   -- the oldest payment in flight is the first row of the outbox
-  pub flight-row : 1 ≤ b .desk .inflight → oldest (view b .outside .inflight) ≡ paymentAt (b .outbox) 0
+  pub flight-row : 1 ≤ b .desk .counts .inflight → oldest (view b .outside .inflight) ≡ paymentAt (b .outbox) 0
   unfolding view
-  flight-row h = rw (take-rows paymentShape (b .desk .payments) (b .desk .inflight) (b .outbox) (f .inflight)) (oldest-row (b .desk .inflight) 0 (b .outbox) h)
+  flight-row h = rw (take-rows paymentShape (b .desk .counts .payments) (b .desk .counts .inflight) (b .outbox) (f .inflight)) (oldest-row (b .desk .counts .inflight) 0 (b .outbox) h)
 
   -- the oldest that waits is the row after those in flight
-  pub waiting-row : b .desk .inflight < b .desk .payments → oldest (view b .outside .waiting) ≡ paymentAt (b .outbox) (b .desk .inflight * 4)
+  pub waiting-row : b .desk .counts .inflight < b .desk .counts .payments → oldest (view b .outside .waiting) ≡ paymentAt (b .outbox) (b .desk .counts .inflight * 4)
   unfolding view
   waiting-row h =
-      rw (drop-rows paymentShape (b .desk .payments) (b .desk .inflight) (b .outbox) (f .inflight))
-      (oldest-row (b .desk .payments - b .desk .inflight) (b .desk .inflight * 4) (b .outbox) (omega arith))
+      rw (drop-rows paymentShape (b .desk .counts .payments) (b .desk .counts .inflight) (b .outbox) (f .inflight))
+      (oldest-row (b .desk .counts .payments - b .desk .counts .inflight) (b .desk .counts .inflight * 4) (b .outbox) (omega arith))
 
 -- ---- the tables of refusals
 abbrev pub withdrawEntries : List ℕ → ℕ → ℕ → WithdrawalFields → List Entry
@@ -101,14 +101,14 @@ settle-told (suc k) due n s p q = rw (p, q (omega arith)) (chain-told ((Refusal.
 
 -- ---- what they read, of any book
 -- how many payments there are
-pub payments-count : (b : Book) → length (payments (view b .outside)) ≡ b .desk .payments
+pub payments-count : (b : Book) → length (payments (view b .outside)) ≡ b .desk .counts .payments
 unfolding view
-payments-count b = rw (take-append-drop (b .desk .inflight) (outboxOf b)) (length-rows paymentShape (b .desk .payments) (b .outbox))
+payments-count b = rw (take-append-drop (b .desk .counts .inflight) (outboxOf b)) (length-rows paymentShape (b .desk .counts .payments) (b .outbox))
 
 -- and how many wait
-pub waiting-count : (b : Book) → length (view b .outside .waiting) ≡ b .desk .payments - b .desk .inflight
+pub waiting-count : (b : Book) → length (view b .outside .waiting) ≡ b .desk .counts .payments - b .desk .counts .inflight
 unfolding view
-waiting-count b = length-drop (b .desk .inflight) (outboxOf b) ∙ ap (λ (n : ℕ). n - b .desk .inflight) (length-rows paymentShape (b .desk .payments) (b .outbox))
+waiting-count b = length-drop (b .desk .counts .inflight) (outboxOf b) ∙ ap (λ (n : ℕ). n - b .desk .counts .inflight) (length-rows paymentShape (b .desk .counts .payments) (b .outbox))
 
 -- ---- what makes it safe
 pub can-withdraw : (b : Book) (w : WithdrawalFields) → Accepted b (Call.Withdraw w) → CanWithdraw (b .desk) w
@@ -116,7 +116,7 @@ unfolding view
 can-withdraw b w a =
     let f : Framed b = framed b (accepted-frame b (Call.Withdraw w) a) in
     let q : WithdrawalFit (view b) w = fit b (Call.Withdraw w) a in
-    let l : length (historyOf b) ≡ b .desk .records = length-rows recordShape (b .desk .records) (b .history) in
+    let l : length (historyOf b) ≡ b .desk .counts .records = length-rows recordShape (b .desk .counts .records) (b .history) in
     record {
       member = q .member;
       asset = q .asset;
@@ -127,13 +127,13 @@ can-withdraw b w a =
     }
 
 -- some payment waits
-pub can-send : (b : Book) → Accepted b Call.Send → b .desk .inflight < b .desk .payments
+pub can-send : (b : Book) → Accepted b Call.Send → b .desk .counts .inflight < b .desk .counts .payments
 can-send b a =
     let q : SendFit (view b) = fit b Call.Send a in
     omega (arith, q .some, waiting-count b)
 
 -- some payment is in flight
-pub some-flies : (b : Book) (n : Nonce) → Accepted b (Call.Settle n) → 1 ≤ b .desk .inflight
+pub some-flies : (b : Book) (n : Nonce) → Accepted b (Call.Settle n) → 1 ≤ b .desk .counts .inflight
 some-flies b n a =
     let f : Framed b = framed b (accepted-frame b (Call.Settle n) a) in
     let q : SettleFit (view b) n = fit b (Call.Settle n) a in
@@ -143,15 +143,15 @@ some-flies b n a =
 limits : (b : Book) → inFrame b ≡ true → all paymentInLimits (outboxOf b) ≡ true
 unfolding outboxFrame
 limits b h =
-    let rise : Bool = noncesRise (b .desk .next .0) (outboxOf b) in
+    let rise : Bool = noncesRise (b .desk .counts .next .0) (outboxOf b) in
     let low : Bool = all paymentInLimits (outboxOf b) in
-    let outbox : Bool = outboxFrame (b .outbox) (b .desk .payments) (b .desk .next .0) in
-    let inbox : Bool = inboxFrame (b .inbox) (b .desk .unclaimed) (b .desk .last .0) in
-    let (x, r) = both (countsFrame (countsOf (b .desk)) (length (b .history))) (listsFrame (b .desk .balances) (b .desk .holders) (b .desk .lifetime) (b .desk .settled) && (inbox && outbox)) (sym (frame-parts b) ∙ h) in
+    let outbox : Bool = outboxFrame (b .outbox) (b .desk .counts .payments) (b .desk .counts .next .0) in
+    let inbox : Bool = inboxFrame (b .inbox) (b .desk .counts .unclaimed) (b .desk .counts .last .0) in
+    let (x, r) = both (countsFrame (b .desk .counts) (length (b .history))) (listsFrame (b .desk .balances) (b .desk .holders) (b .desk .lifetime) (b .desk .settled) && (inbox && outbox)) (sym (frame-parts b) ∙ h) in
     let (y, s) = both (listsFrame (b .desk .balances) (b .desk .holders) (b .desk .lifetime) (b .desk .settled)) (inbox && outbox) r in
     let (z, o) = both inbox outbox s in
-    let (u, p) = both (hasRows paymentShape outboxRows (b .outbox)) (leb (b .desk .payments) outboxRows && (low && rise)) o in
-    let (v, q) = both (leb (b .desk .payments) outboxRows) (low && rise) p in
+    let (u, p) = both (hasRows paymentShape outboxRows (b .outbox)) (leb (b .desk .counts .payments) outboxRows && (low && rise)) o in
+    let (v, q) = both (leb (b .desk .counts .payments) outboxRows) (low && rise) p in
     both low rise q .0
 
 -- of some payments that all pass a test the oldest does
@@ -161,16 +161,16 @@ oldest-passes p [] h e = absurd (omega arith)
 oldest-passes p (x ∷ ps) h e = both (p x) (all p ps) e .0
 
 -- so the first row is
-row-limits : (b : Book) → inFrame b ≡ true → 1 ≤ b .desk .payments → paymentInLimits (paymentAt (b .outbox) 0) ≡ true
+row-limits : (b : Book) → inFrame b ≡ true → 1 ≤ b .desk .counts .payments → paymentInLimits (paymentAt (b .outbox) 0) ≡ true
 row-limits b h s =
-    ap paymentInLimits (sym (oldest-row (b .desk .payments) 0 (b .outbox) s))
-    ∙ oldest-passes paymentInLimits (outboxOf b) (rw (length-rows paymentShape (b .desk .payments) (b .outbox)) s) (limits b h)
+    ap paymentInLimits (sym (oldest-row (b .desk .counts .payments) 0 (b .outbox) s))
+    ∙ oldest-passes paymentInLimits (outboxOf b) (rw (length-rows paymentShape (b .desk .counts .payments) (b .outbox)) s) (limits b h)
 
 pub can-settle : (b : Book) (n : Nonce) → Accepted b (Call.Settle n) → CanSettle (b .desk) (paymentAt (b .outbox) 0)
 can-settle b n a =
     let e : inFrame b ≡ true = accepted-frame b (Call.Settle n) a in
     let f : Framed b = framed b e in
-    let s : 1 ≤ b .desk .inflight = some-flies b n a in
+    let s : 1 ≤ b .desk .counts .inflight = some-flies b n a in
     let p : Payment = paymentAt (b .outbox) 0 in
     let (x, r) = both (isAsset (p .asset)) (isAmount (p .amount) && isPayee (p .payee)) (row-limits b e (omega arith)) in
     let (y, z) = both (isAmount (p .amount)) (isPayee (p .payee)) r in
@@ -185,20 +185,20 @@ can-settle b n a =
 
 -- ---- what is laid back into the outbox: with one row more, as it was, or with the first taken out
 module _ (b : Book) (f : Framed b) where
-  pub payment-added : (p : Payment) → b .desk .payments < 32
-      → lay paymentShape (view b .outside .inflight ++ (view b .outside .waiting ++ (p ∷ []))) (b .desk .payments) (b .outbox)
-      ≡ putAt (b .desk .payments * 4) (paymentShape .flat p) (b .outbox)
+  pub payment-added : (p : Payment) → b .desk .counts .payments < 32
+      → lay paymentShape (view b .outside .inflight ++ (view b .outside .waiting ++ (p ∷ []))) (b .desk .counts .payments) (b .outbox)
+      ≡ putAt (b .desk .counts .payments * 4) (paymentShape .flat p) (b .outbox)
   unfolding edited editedTable RoomFor putAt
   payment-added p h =
-      let e : suc (b .desk .payments) * 4 ≡ b .desk .payments * 4 + 4 = omega arith in
+      let e : suc (b .desk .counts .payments) * 4 ≡ b .desk .counts .payments * 4 + 4 = omega arith in
       rw (
         ← append-assoc (view b .outside .inflight) (view b .outside .waiting) (p ∷ []),
         payments-are b f,
-        le-leb (b .desk .payments * 4 + 4) (length (b .outbox)) (omega arith),
+        le-leb (b .desk .counts .payments * 4 + 4) (length (b .outbox)) (omega arith),
       )
-      (lay-edited paymentShape paymentSound (Edit.add p) (b .desk .payments) (b .outbox) (omega arith))
+      (lay-edited paymentShape paymentSound (Edit.add p) (b .desk .counts .payments) (b .outbox) (omega arith))
 
-  pub added-count : (p : Payment) → length (view b .outside .inflight ++ (view b .outside .waiting ++ (p ∷ []))) ≡ b .desk .payments + 1
+  pub added-count : (p : Payment) → length (view b .outside .inflight ++ (view b .outside .waiting ++ (p ∷ []))) ≡ b .desk .counts .payments + 1
   added-count p =
       rw (← append-assoc (view b .outside .inflight) (view b .outside .waiting) (p ∷ []))
       (length-append (payments (view b .outside)) (p ∷ []) ∙ ap (λ (n : ℕ). n + 1) (outbox-count b f))
@@ -209,55 +209,55 @@ module _ (b : Book) (f : Framed b) where
       append-assoc (view b .outside .inflight) (take 1 (view b .outside .waiting)) (drop 1 (view b .outside .waiting))
       ∙ ap (λ (r : List Payment). view b .outside .inflight ++ r) (take-append-drop 1 (view b .outside .waiting))
 
-  pub sent-count : b .desk .inflight < b .desk .payments → length (view b .outside .inflight ++ take 1 (view b .outside .waiting)) ≡ b .desk .inflight + 1
+  pub sent-count : b .desk .counts .inflight < b .desk .counts .payments → length (view b .outside .inflight ++ take 1 (view b .outside .waiting)) ≡ b .desk .counts .inflight + 1
   sent-count h =
-      let w : length (view b .outside .waiting) ≡ b .desk .payments - b .desk .inflight = waiting-count b in
+      let w : length (view b .outside .waiting) ≡ b .desk .counts .payments - b .desk .counts .inflight = waiting-count b in
       let l : length (take 1 (view b .outside .waiting)) ≡ 1 = length-take-le 1 (view b .outside .waiting) (omega arith) in
       length-append (view b .outside .inflight) (take 1 (view b .outside .waiting)) ∙ rw (flight-count b f, l)
 
   -- the first in flight is the first row
-  rest-are : 1 ≤ b .desk .inflight → drop 1 (view b .outside .inflight) ++ view b .outside .waiting ≡ drop 1 (outboxOf b)
+  rest-are : 1 ≤ b .desk .counts .inflight → drop 1 (view b .outside .inflight) ++ view b .outside .waiting ≡ drop 1 (outboxOf b)
   rest-are h =
-      let l : length (view b .outside .inflight) ≡ b .desk .inflight = flight-count b f in
+      let l : length (view b .outside .inflight) ≡ b .desk .counts .inflight = flight-count b f in
       sym (drop-append-le 1 (view b .outside .inflight) (view b .outside .waiting) (omega arith)) ∙ ap (drop 1) (payments-are b f)
 
-  pub payment-taken : 1 ≤ b .desk .inflight
-      → lay paymentShape (drop 1 (view b .outside .inflight) ++ view b .outside .waiting) (b .desk .payments) (b .outbox) ≡ takenOut 4 0 (b .desk .payments) (b .outbox)
+  pub payment-taken : 1 ≤ b .desk .counts .inflight
+      → lay paymentShape (drop 1 (view b .outside .inflight) ++ view b .outside .waiting) (b .desk .counts .payments) (b .outbox) ≡ takenOut 4 0 (b .desk .counts .payments) (b .outbox)
   unfolding edited editedTable RoomFor takenOut
   payment-taken h =
-      let s : 0 < b .desk .payments = omega arith in
-      rw (rest-are h, le-leb (b .desk .payments * 4) (length (b .outbox)) (omega arith), lt-ltb 0 (b .desk .payments) s)
-      (lay-edited paymentShape paymentSound (Edit.takeOut 0) (b .desk .payments) (b .outbox) (omega arith))
+      let s : 0 < b .desk .counts .payments = omega arith in
+      rw (rest-are h, le-leb (b .desk .counts .payments * 4) (length (b .outbox)) (omega arith), lt-ltb 0 (b .desk .counts .payments) s)
+      (lay-edited paymentShape paymentSound (Edit.takeOut 0) (b .desk .counts .payments) (b .outbox) (omega arith))
 
-  pub taken-count : 1 ≤ b .desk .inflight → length (drop 1 (view b .outside .inflight) ++ view b .outside .waiting) ≡ b .desk .payments - 1
-  taken-count h = rw (rest-are h) (length-drop 1 (outboxOf b) ∙ ap (λ (n : ℕ). n - 1) (length-rows paymentShape (b .desk .payments) (b .outbox)))
+  pub taken-count : 1 ≤ b .desk .counts .inflight → length (drop 1 (view b .outside .inflight) ++ view b .outside .waiting) ≡ b .desk .counts .payments - 1
+  taken-count h = rw (rest-are h) (length-drop 1 (outboxOf b) ∙ ap (λ (n : ℕ). n - 1) (length-rows paymentShape (b .desk .counts .payments) (b .outbox)))
 
-  pub fewer-fly : length (drop 1 (view b .outside .inflight)) ≡ b .desk .inflight - 1
+  pub fewer-fly : length (drop 1 (view b .outside .inflight)) ≡ b .desk .counts .inflight - 1
   fewer-fly = length-drop 1 (view b .outside .inflight) ∙ ap (λ (n : ℕ). n - 1) (flight-count b f)
 
   -- a call that writes no record leaves as many
-  pub no-record : length (historyOf b ++ []) ≡ b .desk .records
-  no-record = history-count b f [] ∙ add-zero (b .desk .records)
+  pub no-record : length (historyOf b ++ []) ≡ b .desk .counts .records
+  no-record = history-count b f [] ∙ add-zero (b .desk .counts .records)
 
 -- ---- what is laid
 pub withdraw-laid : (b : Book) (w : WithdrawalFields) → Framed b → CanWithdraw (b .desk) w
     → bookOf (withdrawnDesk (b .desk) w) (b .inbox)
-    (putAt (b .desk .payments * 4) (w .asset ∷ w .amount ∷ w .payee ∷ b .desk .next .0 ∷ []) (b .outbox))
-    (putAt (b .desk .records * 5) (3 ∷ w .asset ∷ w .amount ∷ w .member ∷ w .payee ∷ []) (b .history))
+    (putAt (b .desk .counts .payments * 4) (w .asset ∷ w .amount ∷ w .payee ∷ b .desk .counts .next .0 ∷ []) (b .outbox))
+    (putAt (b .desk .counts .records * 5) (3 ∷ w .asset ∷ w .amount ∷ w .member ∷ w .payee ∷ []) (b .history))
     ≡ done (Call.Withdraw w) b
 unfolding laid deskOf effect balancesAfter holdersAfter inboxEdit edited outsideAfter withdrawn recordsOf withdrawnDesk view
 withdraw-laid b w f h =
     rw (
       inbox-kept b f,
-      payment-added b f (paymentOf w (b .desk .next)) (h .payments),
+      payment-added b f (paymentOf w (b .desk .counts .next)) (h .payments),
       record-added b f (record { kind = 3; asset = w .asset; amount = w .amount; first = w .member; second = w .payee }) (h .records),
       inbox-count b f,
-      added-count b f (paymentOf w (b .desk .next)),
+      added-count b f (paymentOf w (b .desk .counts .next)),
       flight-count b f,
       history-count b f (record { kind = 3; asset = w .asset; amount = w .amount; first = w .member; second = w .payee } ∷ []),
     )
 
-pub send-laid : (b : Book) → Framed b → b .desk .inflight < b .desk .payments
+pub send-laid : (b : Book) → Framed b → b .desk .counts .inflight < b .desk .counts .payments
     → bookOf (sentDesk (b .desk)) (b .inbox) (b .outbox) (b .history) ≡ done Call.Send b
 unfolding laid deskOf effect balancesAfter holdersAfter inboxEdit edited outsideAfter sent recordsOf view
 send-laid b f h =
@@ -272,8 +272,8 @@ send-laid b f h =
       no-record b f,
     )
 
-pub settle-laid : (b : Book) (n : Nonce) → Framed b → 1 ≤ b .desk .inflight
-    → bookOf (settledDesk (b .desk) (paymentAt (b .outbox) 0)) (b .inbox) (takenOut 4 0 (b .desk .payments) (b .outbox)) (b .history)
+pub settle-laid : (b : Book) (n : Nonce) → Framed b → 1 ≤ b .desk .counts .inflight
+    → bookOf (settledDesk (b .desk) (paymentAt (b .outbox) 0)) (b .inbox) (takenOut 4 0 (b .desk .counts .payments) (b .outbox)) (b .history)
     ≡ done (Call.Settle n) b
 unfolding laid deskOf effect balancesAfter holdersAfter inboxEdit edited outsideAfter settledOne recordsOf settledDesk view
 settle-laid b n f h =

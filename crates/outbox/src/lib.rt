@@ -50,7 +50,7 @@ pub fn withdraw(
     ensures { λ r. ⌜ outcomeOf r (now (inbox .entry)) (now (outbox .exit)) (now (history .exit)) ≡ answer (bookOf d (now (inbox .entry)) (now (outbox .entry)) (now (history .entry))) (Call.Withdraw w) ⌝ }
 {
     let is_framed = framed(d, inbox, outbox, history);
-    let own = withdraw_reply(&d.balances, d.payments, d.records, w);
+    let own = withdraw_reply(&d.balances, d.counts.payments, d.counts.records, w);
     let reply = refuse(!is_framed, Refusal::BadBook, own);
     if !is_done(reply) {
         return Answered {
@@ -72,14 +72,15 @@ pub fn withdraw_done(
     requires { ⌜ Accepted (bookOf d (now inbox) (now outbox) (now history)) (Call.Withdraw w) ⌝ }
     ensures { λ r. ⌜ outcomeOf r (now (inbox .entry)) (now (outbox .exit)) (now (history .exit)) ≡ answer (bookOf d (now (inbox .entry)) (now (outbox .entry)) (now (history .entry))) (Call.Withdraw w) ⌝ }
 {
-    let nonce = d.next;
+    let counts = d.counts;
+    let nonce = counts.next;
     let payment = Payment {
         asset: w.asset,
         amount: w.amount,
         payee: w.payee,
         nonce,
     };
-    put_payment(outbox, d.payments, payment);
+    put_payment(outbox, counts.payments, payment);
     let entry = Record {
         kind: 3,
         asset: w.asset,
@@ -87,7 +88,7 @@ pub fn withdraw_done(
         first: w.member,
         second: w.payee,
     };
-    put_record(history, d.records, entry);
+    put_record(history, counts.records, entry);
     let desk = withdrawn(d, w);
     Answered {
         answer: Answer::Done,
@@ -127,12 +128,14 @@ fn withdrawn(d: Desk, w: WithdrawalFields) -> Desk
     let held = balance_of(&after.balances, w.member, w.asset);
     let less = held - w.amount;
     set_balance(&mut after.balances, w.member, w.asset, less);
-    let given = d.next;
+    let mut counts = d.counts;
+    let given = counts.next;
     let number = given.0 + 1;
     let next = Nonce(number);
-    after.next = next;
-    after.payments = d.payments + 1;
-    after.records = d.records + 1;
+    counts.next = next;
+    counts.payments += 1;
+    counts.records += 1;
+    after.counts = counts;
     after
 }
 
@@ -142,7 +145,7 @@ pub fn send(d: Desk, inbox: &[u64], outbox: &[u64], history: &[u64]) -> Answered
     ensures { λ r. ⌜ outcomeOf r (now (inbox .entry)) (now (outbox .entry)) (now (history .entry)) ≡ answer (bookOf d (now (inbox .entry)) (now (outbox .entry)) (now (history .entry))) Call.Send ⌝ }
 {
     let is_framed = framed(d, inbox, outbox, history);
-    let waiting = count_waiting(d.payments, d.inflight);
+    let waiting = count_waiting(d.counts.payments, d.counts.inflight);
     let own = send_reply(waiting);
     let found = refuse(!is_framed, Refusal::BadBook, own);
     if !is_done(found) {
@@ -159,11 +162,13 @@ pub fn send_done(d: Desk, inbox: &[u64], outbox: &[u64], history: &[u64]) -> Ans
     requires { ⌜ Accepted (bookOf d (now inbox) (now outbox) (now history)) Call.Send ⌝ }
     ensures { λ r. ⌜ outcomeOf r (now (inbox .entry)) (now (outbox .entry)) (now (history .entry)) ≡ answer (bookOf d (now (inbox .entry)) (now (outbox .entry)) (now (history .entry))) Call.Send ⌝ }
 {
-    let at = d.inflight * PAYMENT_WIDTH;
+    let at = d.counts.inflight * PAYMENT_WIDTH;
     let payment = payment_at(outbox, at);
     let sent = Answer::Sent(payment);
     let mut after = d;
-    after.inflight = d.inflight + 1;
+    let mut counts = d.counts;
+    counts.inflight += 1;
+    after.counts = counts;
     Answered {
         answer: sent,
         desk: after,
@@ -194,7 +199,7 @@ pub fn settle(d: Desk, inbox: &[u64], outbox: &mut [u64], history: &[u64], n: No
 {
     let is_framed = framed(d, inbox, outbox, history);
     let due = first_nonce(outbox);
-    let own = settle_reply(d.inflight, due, n);
+    let own = settle_reply(d.counts.inflight, due, n);
     let verdict = refuse(!is_framed, Refusal::BadBook, own);
     if !is_done(verdict) {
         return Answered {
@@ -217,7 +222,7 @@ pub fn settle_done(
     ensures { λ r. ⌜ outcomeOf r (now (inbox .entry)) (now (outbox .exit)) (now (history .entry)) ≡ answer (bookOf d (now (inbox .entry)) (now (outbox .entry)) (now (history .entry))) (Call.Settle n) ⌝ }
 {
     let payment = payment_at(outbox, 0);
-    take_out(outbox, PAYMENT_WIDTH, 0, d.payments);
+    take_out(outbox, PAYMENT_WIDTH, 0, d.counts.payments);
     let desk = settled(d, payment);
     Answered {
         answer: Answer::Done,
@@ -253,8 +258,10 @@ fn settled(d: Desk, p: Payment) -> Desk
     let mut after = d;
     let more = of_eight(&after.settled, p.asset) + p.amount;
     set_of_eight(&mut after.settled, p.asset, more);
-    after.payments = d.payments - 1;
-    after.inflight = d.inflight - 1;
+    let mut counts = d.counts;
+    counts.payments -= 1;
+    counts.inflight -= 1;
+    after.counts = counts;
     after
 }
 

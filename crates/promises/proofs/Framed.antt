@@ -51,9 +51,9 @@ pub framed : (b : Book) → inFrame b ≡ true → Framed (view b)
 unfolding inFrame
 framed b h =
     record {
-      unclaimed = unfold view in rw (length-rows depositShape (b .desk .unclaimed) (b .inbox)) (leb-true (b .desk .unclaimed) 64 (ands-at _ 3 h));
-      queued = unfold view in rw (take-append-drop (b .desk .inflight) (outboxOf b), length-rows paymentShape (b .desk .payments) (b .outbox)) (leb-true (b .desk .payments) 32 (ands-at _ 4 h));
-      records = unfold view in rw (length-rows recordShape (b .desk .records) (b .history)) (leb-true (b .desk .records) 1024 (ands-at _ 5 h));
+      unclaimed = unfold view in rw (length-rows depositShape (b .desk .counts .unclaimed) (b .inbox)) (leb-true (b .desk .counts .unclaimed) 64 (ands-at _ 3 h));
+      queued = unfold view in rw (take-append-drop (b .desk .counts .inflight) (outboxOf b), length-rows paymentShape (b .desk .counts .payments) (b .outbox)) (leb-true (b .desk .counts .payments) 32 (ands-at _ 4 h));
+      records = unfold view in rw (length-rows recordShape (b .desk .counts .records) (b .history)) (leb-true (b .desk .counts .records) 1024 (ands-at _ 5 h));
       balances = ands-at _ 7 h;
       lifetime = ands-at _ 8 h;
       settled = ands-at _ 9 h;
@@ -75,10 +75,10 @@ in-frame s b f z =
       eq-eqb (length (laid s b .inbox)) 256 (z .inboxSize),
       eq-eqb (length (laid s b .outbox)) 128 (z .outboxSize),
       eq-eqb (length (laid s b .history)) 5120 (z .historySize),
-      le-leb (laid s b .desk .unclaimed) 64 (unfold laid deskOf in f .unclaimed),
-      le-leb (laid s b .desk .payments) 32 (unfold laid deskOf in f .queued),
-      le-leb (laid s b .desk .records) 1024 (unfold laid deskOf in f .records),
-      le-leb (laid s b .desk .inflight) (laid s b .desk .payments) (unfold laid deskOf in rw length-append (omega arith)),
+      le-leb (laid s b .desk .counts .unclaimed) 64 (unfold laid deskOf in f .unclaimed),
+      le-leb (laid s b .desk .counts .payments) 32 (unfold laid deskOf in f .queued),
+      le-leb (laid s b .desk .counts .records) 1024 (unfold laid deskOf in f .records),
+      le-leb (laid s b .desk .counts .inflight) (laid s b .desk .counts .payments) (unfold laid deskOf in rw length-append (omega arith)),
       f .balances,
       f .lifetime,
       f .settled,

@@ -45,11 +45,11 @@ pub sized-laid : (s : State) (b : Book) → inFrame b ≡ true → Framed s → 
 unfolding laid inFrame
 sized-laid s b h f =
     let z : Sized b = sized b h in
-    let u : b .desk .unclaimed ≤ 64 = leb-true (b .desk .unclaimed) 64 (ands-at _ 3 h) in
-    let p : b .desk .payments ≤ 32 = leb-true (b .desk .payments) 32 (ands-at _ 4 h) in
-    let r : b .desk .records ≤ 1024 = leb-true (b .desk .records) 1024 (ands-at _ 5 h) in
+    let u : b .desk .counts .unclaimed ≤ 64 = leb-true (b .desk .counts .unclaimed) 64 (ands-at _ 3 h) in
+    let p : b .desk .counts .payments ≤ 32 = leb-true (b .desk .counts .payments) 32 (ands-at _ 4 h) in
+    let r : b .desk .counts .records ≤ 1024 = leb-true (b .desk .counts .records) 1024 (ands-at _ 5 h) in
     record {
-      inboxSize = length-lay depositShape depositSound (s .inbox) (b .desk .unclaimed) (b .inbox) (omega arith) ∙ z .inboxSize;
-      outboxSize = length-lay paymentShape paymentSound (payments (s .outside)) (b .desk .payments) (b .outbox) (omega arith) ∙ z .outboxSize;
-      historySize = length-lay recordShape recordSound (s .history) (b .desk .records) (b .history) (omega arith) ∙ z .historySize;
+      inboxSize = length-lay depositShape depositSound (s .inbox) (b .desk .counts .unclaimed) (b .inbox) (omega arith) ∙ z .inboxSize;
+      outboxSize = length-lay paymentShape paymentSound (payments (s .outside)) (b .desk .counts .payments) (b .outbox) (omega arith) ∙ z .outboxSize;
+      historySize = length-lay recordShape recordSound (s .history) (b .desk .counts .records) (b .history) (omega arith) ∙ z .historySize;
     }

@@ -53,9 +53,9 @@ pub record Unchanged (b : Book) (o : Outcome) : Type 0 where
 pub record Leaves (b : Book) (c : Call) : Type 0 where
   pub state : view (answer b c .book) ≡ effect c (view b)
   pub desk : answer b c .book .desk ≡ deskOf (effect c (view b))
-  pub inbox : answer b c .book .inbox ≡ editedTable depositShape (edits c (view b) .inbox) (b .desk .unclaimed) (b .inbox)
-  pub outbox : answer b c .book .outbox ≡ editedTable paymentShape (edits c (view b) .outbox) (b .desk .payments) (b .outbox)
-  pub history : answer b c .book .history ≡ editedTable recordShape (edits c (view b) .history) (b .desk .records) (b .history)
+  pub inbox : answer b c .book .inbox ≡ editedTable depositShape (edits c (view b) .inbox) (b .desk .counts .unclaimed) (b .inbox)
+  pub outbox : answer b c .book .outbox ≡ editedTable paymentShape (edits c (view b) .outbox) (b .desk .counts .payments) (b .outbox)
+  pub history : answer b c .book .history ≡ editedTable recordShape (edits c (view b) .history) (b .desk .counts .records) (b .history)
 
 -- the line, read as a call or not, gets a number up to 21, and changes nothing unless that is 0
 pub record LineAnswered (b : Book) (l : Line) : Type 0 where

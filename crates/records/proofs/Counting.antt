@@ -133,20 +133,20 @@ nothing-left m a n t e = rw e
 
 -- ---- the whole frame
 -- in a book in frame the history's count and table are as they must be
-pub history-whole : (b : Book) → inFrame b ≡ true → historyFrame (b .history) (b .desk .records) ≡ historyInFrame (historyOf b)
+pub history-whole : (b : Book) → inFrame b ≡ true → historyFrame (b .history) (b .desk .counts .records) ≡ historyInFrame (historyOf b)
 unfolding historyFrame
 history-whole b e =
     let f : Framed b = framed b e in
-    rw (le-leb (b .desk .records) 1024 (f .records), le-leb (b .desk .records * 5) (length (b .history)) (omega arith))
+    rw (le-leb (b .desk .counts .records) 1024 (f .records), le-leb (b .desk .counts .records * 5) (length (b .history)) (omega arith))
 
-pub frame-whole : (b : Book) → inFrame b && historyFrame (b .history) (b .desk .records) ≡ inFrame b && historyInFrame (historyOf b)
+pub frame-whole : (b : Book) → inFrame b && historyFrame (b .history) (b .desk .counts .records) ≡ inFrame b && historyInFrame (historyOf b)
 frame-whole b = go (inFrame b) refl
   where
-    go : (t : Bool) → inFrame b ≡ t → t && historyFrame (b .history) (b .desk .records) ≡ t && historyInFrame (historyOf b)
+    go : (t : Bool) → inFrame b ≡ t → t && historyFrame (b .history) (b .desk .counts .records) ≡ t && historyInFrame (historyOf b)
     go true e = history-whole b e
     go false e = refl
 
-pub can-work : (b : Book) → inFrame b && historyInFrame (historyOf b) ≡ true → CanWork (b .history) (b .desk .records)
+pub can-work : (b : Book) → inFrame b && historyInFrame (historyOf b) ≡ true → CanWork (b .history) (b .desk .counts .records)
 can-work b h =
     let (u, v) = both (inFrame b) (historyInFrame (historyOf b)) h in
     let f : Framed b = framed b u in

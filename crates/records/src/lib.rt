@@ -59,5 +59,5 @@ fn number_at(history: &[u64], i: usize, k: usize) -> u64
 pub fn book_in_frame(d: Desk, inbox: &[u64], outbox: &[u64], history: &[u64]) -> bool
     ensures { λ r. ⌜ r ≡ inFrame (bookOf d (now (inbox .entry)) (now (outbox .entry)) (now (history .entry))) && historyInFrame (historyOf (bookOf d (now (inbox .entry)) (now (outbox .entry)) (now (history .entry)))) ⌝ }
 {
-    framed(d, inbox, outbox, history) & history_in_frame(history, d.records)
+    framed(d, inbox, outbox, history) & history_in_frame(history, d.counts.records)
 }

@@ -40,7 +40,7 @@ pub fn provenance(
         let why = Refusal::BadAsset;
         return Origin::Refused(why);
     }
-    Origin::Amount(worked_out(history, d.records, member, asset))
+    Origin::Amount(worked_out(history, d.counts.records, member, asset))
 }
 
 // "going back through the history, one record fewer each time"

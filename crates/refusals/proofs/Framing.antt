@@ -38,7 +38,7 @@ pub framed-told : (b : Book) (c : Call) (r : Answer) → frameTest b c ≡ badBo
 framed-told b c r e f h = rw (framed-number b c (ap (λ (x : ℕ × Bool). x .1) e ∙ rw f)) h
 
 -- and a trace, whose table has the history's test too
-pub framed-traced : (b : Book) (n : Nonce) (r : Answer) → inFrame b ≡ true → told r ≡ plain (smallest (historyRefusals (b .history) (b .desk .records) historyRows historyRows (view b) n))
+pub framed-traced : (b : Book) (n : Nonce) (r : Answer) → inFrame b ≡ true → told r ≡ plain (smallest (historyRefusals (b .history) (b .desk .counts .records) historyRows historyRows (view b) n))
     → told r ≡ plain (replyNumber b (Call.Trace n))
 unfolding replyNumber frameTest refusals fulls traceRefusals
 framed-traced b n r f h = rw (f, ← history-whole b f) h

@@ -8,8 +8,8 @@ use Rattle.rules.specs.declared.answers.Answer.{Answer}
 use Rattle.rules.specs.Replies.{told, plain}
 use Rattle.rules.specs.Frame.{inFrame}
 use Rattle.rules.specs.Answer.{replyNumber, bookOf}
-use Rattle.frames.specs.declared.Counts.{Counts}
-use Rattle.frames.specs.Parts.{deskWith}
+use Rattle.rules.specs.declared.desk.Counts.{Counts}
+use Rattle.desk.specs.Kept.{deskWith}
 use Rattle.desk.specs.Parts.{isDone}
 
 -- whether a call is a sign: "allowed exactly if the member holds the domain. Changes nothing."

@@ -1,16 +1,16 @@
 // What a call is refused for: every call's table of refusals, asked before anything is written. The desk's
 // lists are lent, so that a call whose number is all that it comes to copies no desk.
 use desk::answers::is_done;
-use frames::Counts;
 use frames::in_frame;
 use rules::answers::Answer;
 use rules::answers::Refusal;
 use rules::calls::Call;
+use rules::desk::Counts;
 use rules::limits::HISTORY_ROWS;
 ghost use mathlib.Core.Path.{_≡_};
 ghost use Rattle.rules.specs.Replies.{told, plain};
 ghost use Rattle.rules.specs.Answer.{replyNumber, bookOf};
-ghost use Rattle.frames.specs.Parts.{deskWith};
+ghost use Rattle.desk.specs.Kept.{deskWith};
 ghost use Rattle.refusals.specs.Said.{isSign, saysAll, TableTold};
 
 // The reply number that a call gets: 2 BadBook where the book is out of frame, which is tested here and once, or what

@@ -28,15 +28,15 @@ pub record Framed (b : Book) : Type 0 where
   pub inboxSize : length (b .inbox) ≡ 256
   pub outboxSize : length (b .outbox) ≡ 128
   pub historySize : length (b .history) ≡ 5120
-  pub unclaimed : b .desk .unclaimed ≤ 64
-  pub payments : b .desk .payments ≤ 32
-  pub records : b .desk .records ≤ 1024
-  pub inflight : b .desk .inflight ≤ b .desk .payments
+  pub unclaimed : b .desk .counts .unclaimed ≤ 64
+  pub payments : b .desk .counts .payments ≤ 32
+  pub records : b .desk .counts .records ≤ 1024
+  pub inflight : b .desk .counts .inflight ≤ b .desk .counts .payments
   pub balances : all upToCeiling (b .desk .balances) ≡ true
   pub lifetime : all upToCeiling (b .desk .lifetime) ≡ true
   pub settled : all upToCeiling (b .desk .settled) ≡ true
-  pub last : b .desk .last .0 ≤ 4294967295
-  pub next : b .desk .next .0 ≤ 1024
+  pub last : b .desk .counts .last .0 ≤ 4294967295
+  pub next : b .desk .counts .next .0 ≤ 1024
 
 pub framed : (b : Book) → inFrame b ≡ true → Framed b
 unfolding inFrame view
@@ -58,36 +58,36 @@ framed b h =
 
 -- ---- what is laid back into a table: as it was, or with one row more
 module _ (b : Book) (f : Framed b) where
-  pub inbox-kept : lay depositShape (inboxOf b) (b .desk .unclaimed) (b .inbox) ≡ b .inbox
+  pub inbox-kept : lay depositShape (inboxOf b) (b .desk .counts .unclaimed) (b .inbox) ≡ b .inbox
   unfolding edited editedTable RoomFor
-  inbox-kept = lay-edited depositShape depositSound Edit.keep (b .desk .unclaimed) (b .inbox) (omega arith)
+  inbox-kept = lay-edited depositShape depositSound Edit.keep (b .desk .counts .unclaimed) (b .inbox) (omega arith)
 
   -- the payments of the view are the rows of the outbox
   pub payments-are : payments (view b .outside) ≡ outboxOf b
   unfolding view
-  payments-are = take-append-drop (b .desk .inflight) (outboxOf b)
+  payments-are = take-append-drop (b .desk .counts .inflight) (outboxOf b)
 
-  pub outbox-kept : lay paymentShape (payments (view b .outside)) (b .desk .payments) (b .outbox) ≡ b .outbox
+  pub outbox-kept : lay paymentShape (payments (view b .outside)) (b .desk .counts .payments) (b .outbox) ≡ b .outbox
   unfolding edited editedTable RoomFor
-  outbox-kept = rw payments-are (lay-edited paymentShape paymentSound Edit.keep (b .desk .payments) (b .outbox) (omega arith))
+  outbox-kept = rw payments-are (lay-edited paymentShape paymentSound Edit.keep (b .desk .counts .payments) (b .outbox) (omega arith))
 
-  pub history-kept : lay recordShape (historyOf b ++ []) (b .desk .records) (b .history) ≡ b .history
+  pub history-kept : lay recordShape (historyOf b ++ []) (b .desk .counts .records) (b .history) ≡ b .history
   unfolding edited editedTable RoomFor
-  history-kept = rw (append-nil (historyOf b)) (lay-edited recordShape recordSound Edit.keep (b .desk .records) (b .history) (omega arith))
+  history-kept = rw (append-nil (historyOf b)) (lay-edited recordShape recordSound Edit.keep (b .desk .counts .records) (b .history) (omega arith))
 
   -- ---- counts
-  pub inbox-count : length (inboxOf b) ≡ b .desk .unclaimed
-  inbox-count = length-rows depositShape (b .desk .unclaimed) (b .inbox)
+  pub inbox-count : length (inboxOf b) ≡ b .desk .counts .unclaimed
+  inbox-count = length-rows depositShape (b .desk .counts .unclaimed) (b .inbox)
 
-  pub outbox-count : length (payments (view b .outside)) ≡ b .desk .payments
-  outbox-count = rw payments-are (length-rows paymentShape (b .desk .payments) (b .outbox))
+  pub outbox-count : length (payments (view b .outside)) ≡ b .desk .counts .payments
+  outbox-count = rw payments-are (length-rows paymentShape (b .desk .counts .payments) (b .outbox))
 
-  pub flight-count : length (view b .outside .inflight) ≡ b .desk .inflight
+  pub flight-count : length (view b .outside .inflight) ≡ b .desk .counts .inflight
   unfolding view
-  flight-count = length-take-le (b .desk .inflight) (outboxOf b) (rw (length-rows paymentShape (b .desk .payments) (b .outbox)) (f .inflight))
+  flight-count = length-take-le (b .desk .counts .inflight) (outboxOf b) (rw (length-rows paymentShape (b .desk .counts .payments) (b .outbox)) (f .inflight))
 
-  pub history-count : (rs : List Record) → length (historyOf b ++ rs) ≡ b .desk .records + length rs
-  history-count rs = length-append (historyOf b) rs ∙ ap (λ (n : ℕ). n + length rs) (length-rows recordShape (b .desk .records) (b .history))
+  pub history-count : (rs : List Record) → length (historyOf b ++ rs) ≡ b .desk .counts .records + length rs
+  history-count rs = length-append (historyOf b) rs ∙ ap (λ (n : ℕ). n + length rs) (length-rows recordShape (b .desk .counts .records) (b .history))
 
 -- ---- the place of the first that passes a test
 -- none passes where it is past the last
@@ -148,7 +148,7 @@ records-after s (Call.Trace n) = append-nil (s .history)
 
 -- ---- each table has room for the edit
 module _ (b : Book) (f : Framed b) where
-  inbox-room : (c : Call) → Fit (view b) c → Room (view b) c → RoomFor depositShape (inboxEdit c (inboxOf b)) (b .desk .unclaimed) (b .inbox)
+  inbox-room : (c : Call) → Fit (view b) c → Room (view b) c → RoomFor depositShape (inboxEdit c (inboxOf b)) (b .desk .counts .unclaimed) (b .inbox)
   unfolding RoomFor inboxEdit view
   inbox-room (Call.Deposit d) k r = let l = inbox-count b f in omega (arith, r .room)
   inbox-room (Call.Claim c) k r = let l = inbox-count b f in (omega (arith, index-found (matches c) (inboxOf b) (k .found)), omega arith)
@@ -160,7 +160,7 @@ module _ (b : Book) (f : Framed b) where
   inbox-room (Call.Sign g) k r = omega arith
   inbox-room (Call.Trace n) k r = omega arith
 
-  outbox-room : (c : Call) → Fit (view b) c → Room (view b) c → RoomFor paymentShape (outboxEdit c (view b .outside)) (b .desk .payments) (b .outbox)
+  outbox-room : (c : Call) → Fit (view b) c → Room (view b) c → RoomFor paymentShape (outboxEdit c (view b .outside)) (b .desk .counts .payments) (b .outbox)
   unfolding RoomFor outboxEdit
   outbox-room (Call.Deposit d) k r = omega arith
   outbox-room (Call.Claim c) k r = omega arith
@@ -172,15 +172,15 @@ module _ (b : Book) (f : Framed b) where
   outbox-room (Call.Sign g) k r = omega arith
   outbox-room (Call.Trace n) k r = omega arith
 
-  history-room : (c : Call) → Room (view b) c → RoomFor recordShape (appended (recordsOf c)) (b .desk .records) (b .history)
+  history-room : (c : Call) → Room (view b) c → RoomFor recordShape (appended (recordsOf c)) (b .desk .counts .records) (b .history)
   unfolding RoomFor appended recordsOf view
   history-room (Call.Deposit d) r = omega arith
-  history-room (Call.Claim c) r = let l = length-rows recordShape (b .desk .records) (b .history) in omega (arith, r .room)
-  history-room (Call.Transfer t) r = let l = length-rows recordShape (b .desk .records) (b .history) in omega (arith, r .room)
-  history-room (Call.Withdraw w) r = let l = length-rows recordShape (b .desk .records) (b .history) in omega (arith, r .1 .room)
+  history-room (Call.Claim c) r = let l = length-rows recordShape (b .desk .counts .records) (b .history) in omega (arith, r .room)
+  history-room (Call.Transfer t) r = let l = length-rows recordShape (b .desk .counts .records) (b .history) in omega (arith, r .room)
+  history-room (Call.Withdraw w) r = let l = length-rows recordShape (b .desk .counts .records) (b .history) in omega (arith, r .1 .room)
   history-room Call.Send r = omega arith
   history-room (Call.Settle n) r = omega arith
-  history-room (Call.Grant g) r = let l = length-rows recordShape (b .desk .records) (b .history) in omega (arith, r .room)
+  history-room (Call.Grant g) r = let l = length-rows recordShape (b .desk .counts .records) (b .history) in omega (arith, r .room)
   history-room (Call.Sign g) r = omega arith
   history-room (Call.Trace n) r = omega arith
 
@@ -189,21 +189,21 @@ module _ (b : Book) (c : Call) (a : Accepted b c) where
   in-frame : Framed b
   in-frame = framed b (accepted-frame b c a)
 
-  pub inbox-left : done c b .inbox ≡ editedTable depositShape (edits c (view b) .inbox) (b .desk .unclaimed) (b .inbox)
+  pub inbox-left : done c b .inbox ≡ editedTable depositShape (edits c (view b) .inbox) (b .desk .counts .unclaimed) (b .inbox)
   unfolding laid effect edits view
-  inbox-left = lay-edited depositShape depositSound (inboxEdit c (inboxOf b)) (b .desk .unclaimed) (b .inbox) (inbox-room b in-frame c (fit b c a) (roomy b c a))
+  inbox-left = lay-edited depositShape depositSound (inboxEdit c (inboxOf b)) (b .desk .counts .unclaimed) (b .inbox) (inbox-room b in-frame c (fit b c a) (roomy b c a))
 
-  pub outbox-left : done c b .outbox ≡ editedTable paymentShape (edits c (view b) .outbox) (b .desk .payments) (b .outbox)
+  pub outbox-left : done c b .outbox ≡ editedTable paymentShape (edits c (view b) .outbox) (b .desk .counts .payments) (b .outbox)
   unfolding laid effect edits
   outbox-left =
       rw (payments-after (view b) c (fit b c a), payments-are b in-frame)
-      (lay-edited paymentShape paymentSound (outboxEdit c (view b .outside)) (b .desk .payments) (b .outbox) (outbox-room b in-frame c (fit b c a) (roomy b c a)))
+      (lay-edited paymentShape paymentSound (outboxEdit c (view b .outside)) (b .desk .counts .payments) (b .outbox) (outbox-room b in-frame c (fit b c a) (roomy b c a)))
 
-  pub history-left : done c b .history ≡ editedTable recordShape (edits c (view b) .history) (b .desk .records) (b .history)
+  pub history-left : done c b .history ≡ editedTable recordShape (edits c (view b) .history) (b .desk .counts .records) (b .history)
   unfolding laid effect edits view
   history-left =
       rw (records-after (view b) c)
-      (lay-edited recordShape recordSound (appended (recordsOf c)) (b .desk .records) (b .history) (history-room b in-frame c (roomy b c a)))
+      (lay-edited recordShape recordSound (appended (recordsOf c)) (b .desk .counts .records) (b .history) (history-room b in-frame c (roomy b c a)))
 
 -- ---- a call that changes nothing
 -- what a done one lays is what was there

@@ -41,9 +41,9 @@ pub view-laid : (s : State) (b : Book) → view (laid s b) ≡ s
 unfolding view laid deskOf
 view-laid s b =
     rw (
-      rows-laid depositShape depositSound (s .inbox) (b .desk .unclaimed) (b .inbox),
-      rows-laid paymentShape paymentSound (payments (s .outside)) (b .desk .payments) (b .outbox),
-      rows-laid recordShape recordSound (s .history) (b .desk .records) (b .history),
+      rows-laid depositShape depositSound (s .inbox) (b .desk .counts .unclaimed) (b .inbox),
+      rows-laid paymentShape paymentSound (payments (s .outside)) (b .desk .counts .payments) (b .outbox),
+      rows-laid recordShape recordSound (s .history) (b .desk .counts .records) (b .history),
       take-append-seam (s .outside .inflight) (s .outside .waiting),
       drop-append-seam (s .outside .inflight) (s .outside .waiting),
     )

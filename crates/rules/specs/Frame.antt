@@ -44,10 +44,10 @@ inFrame b =
     (hasRows depositShape inboxRows (b .inbox)
     ∷ hasRows paymentShape outboxRows (b .outbox)
     ∷ hasRows recordShape historyRows (b .history)
-    ∷ leb (b .desk .unclaimed) inboxRows
-    ∷ leb (b .desk .payments) outboxRows
-    ∷ leb (b .desk .records) historyRows
-    ∷ leb (b .desk .inflight) (b .desk .payments)
+    ∷ leb (b .desk .counts .unclaimed) inboxRows
+    ∷ leb (b .desk .counts .payments) outboxRows
+    ∷ leb (b .desk .counts .records) historyRows
+    ∷ leb (b .desk .counts .inflight) (b .desk .counts .payments)
     ∷ all upToCeiling (view b .balances)
     ∷ all upToCeiling (view b .outside .lifetime)
     ∷ all upToCeiling (view b .outside .settled)

@@ -48,12 +48,15 @@ partsAs list count d =
       holders = list 1 (d .holders);
       lifetime = list 2 (d .lifetime);
       settled = list 3 (d .settled);
-      last = record { 0 = count 0 (d .last .0) };
-      next = record { 0 = count 1 (d .next .0) };
-      unclaimed = count 2 (d .unclaimed);
-      payments = count 3 (d .payments);
-      inflight = count 4 (d .inflight);
-      records = count 5 (d .records);
+      counts =
+          record {
+            last = record { 0 = count 0 (d .counts .last .0) };
+            next = record { 0 = count 1 (d .counts .next .0) };
+            unclaimed = count 2 (d .counts .unclaimed);
+            payments = count 3 (d .counts .payments);
+            inflight = count 4 (d .counts .inflight);
+            records = count 5 (d .counts .records);
+          };
     }
 
 -- one list, or one count, and all else as it is

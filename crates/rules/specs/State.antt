@@ -32,13 +32,13 @@ pub record Book : Type 0 where
 
 -- the used rows of a book's tables
 abbrev pub inboxOf : Book → List Deposit
-inboxOf b = rowsOf depositShape (b .desk .unclaimed) (b .inbox)
+inboxOf b = rowsOf depositShape (b .desk .counts .unclaimed) (b .inbox)
 
 abbrev pub outboxOf : Book → List Payment
-outboxOf b = rowsOf paymentShape (b .desk .payments) (b .outbox)
+outboxOf b = rowsOf paymentShape (b .desk .counts .payments) (b .outbox)
 
 abbrev pub historyOf : Book → List Record
-historyOf b = rowsOf recordShape (b .desk .records) (b .history)
+historyOf b = rowsOf recordShape (b .desk .counts .records) (b .history)
 
 -- the state that a book holds: of the outbox's rows the first are in flight
 unfoldable pub view : Book → State
@@ -51,10 +51,10 @@ view b =
           record {
             lifetime = b .desk .lifetime;
             settled = b .desk .settled;
-            last = b .desk .last;
-            next = b .desk .next;
-            inflight = take (b .desk .inflight) (outboxOf b);
-            waiting = drop (b .desk .inflight) (outboxOf b);
+            last = b .desk .counts .last;
+            next = b .desk .counts .next;
+            inflight = take (b .desk .counts .inflight) (outboxOf b);
+            waiting = drop (b .desk .counts .inflight) (outboxOf b);
           };
       history = historyOf b;
     }
@@ -71,12 +71,15 @@ deskOf s =
       holders = s .holders;
       lifetime = s .outside .lifetime;
       settled = s .outside .settled;
-      last = s .outside .last;
-      next = s .outside .next;
-      unclaimed = length (s .inbox);
-      payments = length (payments (s .outside));
-      inflight = length (s .outside .inflight);
-      records = length (s .history);
+      counts =
+          record {
+            last = s .outside .last;
+            next = s .outside .next;
+            unclaimed = length (s .inbox);
+            payments = length (payments (s .outside));
+            inflight = length (s .outside .inflight);
+            records = length (s .history);
+          };
     }
 
 -- a book with another state laid into its tables
@@ -84,9 +87,9 @@ unfoldable pub laid : State → Book → Book
 laid s b =
     record {
       desk = deskOf s;
-      inbox = lay depositShape (s .inbox) (b .desk .unclaimed) (b .inbox);
-      outbox = lay paymentShape (payments (s .outside)) (b .desk .payments) (b .outbox);
-      history = lay recordShape (s .history) (b .desk .records) (b .history);
+      inbox = lay depositShape (s .inbox) (b .desk .counts .unclaimed) (b .inbox);
+      outbox = lay paymentShape (payments (s .outside)) (b .desk .counts .payments) (b .outbox);
+      history = lay recordShape (s .history) (b .desk .counts .records) (b .history);
     }
 
 -- the holders that every book starts with: "member 1 holding every domain"

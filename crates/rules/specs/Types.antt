@@ -6,6 +6,7 @@ pub use Rattle.rules.specs.declared.rows.Payment.{Payment}
 pub use Rattle.rules.specs.declared.rows.Record.{Record}
 pub use Rattle.rules.specs.declared.rows.Lot.{Lot}
 pub use Rattle.rules.specs.declared.desk.Desk.{Desk}
+pub use Rattle.rules.specs.declared.desk.Counts.{Counts}
 pub use Rattle.rules.specs.declared.calls.ClaimFields.{ClaimFields}
 pub use Rattle.rules.specs.declared.calls.TransferFields.{TransferFields}
 pub use Rattle.rules.specs.declared.calls.WithdrawalFields.{WithdrawalFields}

@@ -11,6 +11,11 @@ pub struct Desk {
     // Lifetime deposits, and what has settled, of asset a at a - 1.
     pub lifetime: [u64; 8],
     pub settled: [u64; 8],
+    pub counts: Counts,
+}
+
+// The counters and the counts of a desk: a number that a desk keeps beside its lists stands here alone.
+pub struct Counts {
     // The last deposit number accepted, and the next payment's nonce.
     pub last: DepositNumber,
     pub next: Nonce,

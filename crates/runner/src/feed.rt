@@ -5,7 +5,6 @@ use crate::running::Written;
 use crate::running::answer_call;
 use crate::running::answer_said;
 use crate::running::hear;
-use frames::counts_of;
 use lines::read::read_line;
 use replies::put_end;
 use rules::answers::Answer;
@@ -172,7 +171,7 @@ pub fn run_some(
             return so_far(desk, w, held, chunk.len());
         }
         let l = whole_line(hold, held, &rest[..n]);
-        let counts = counts_of(desk);
+        let counts = desk.counts;
         let heard = hear(
             &desk.balances,
             &desk.holders,

@@ -1,6 +1,5 @@
 // One line in, one line out: a line that leaves the book as it was is told, a call that nothing refuses is stepped, and
 // the tally is raised once.
-use frames::Counts;
 use refusals::call_reply;
 use refusals::says_all;
 use replies::put_reply_line;
@@ -10,6 +9,7 @@ use rules::answers::Refusal;
 use rules::answers::Tally;
 use rules::calls::Call;
 use rules::calls::Line;
+use rules::desk::Counts;
 use rules::desk::Desk;
 use steps::counted::tallied_step;
 use steps::tally::raised;
@@ -19,7 +19,7 @@ ghost use Rattle.rules.specs.Answer.{bookOf, answer};
 ghost use Rattle.rules.specs.Facts.{Accepted};
 ghost use Rattle.rules.specs.Replies.{told};
 ghost use Rattle.rules.specs.Transcript.{tallied};
-ghost use Rattle.frames.specs.Parts.{deskWith};
+ghost use Rattle.desk.specs.Kept.{deskWith};
 ghost use Rattle.pages.specs.Writing.{page, put};
 ghost use Rattle.replies.specs.Writing.{replyLine};
 ghost use Rattle.runner.specs.Running.{Few, Hears, Leaves};

@@ -2,6 +2,7 @@
 use crate::feed::Feeding;
 use crate::running::Running;
 use rules::answers::Tally;
+use rules::desk::Counts;
 use rules::desk::Desk;
 use rules::rows::DepositNumber;
 use rules::rows::Nonce;
@@ -33,16 +34,19 @@ fn empty_desk() -> Desk
 {
     let last = DepositNumber(0);
     let next = Nonce(0);
-    Desk {
-        balances: [0; 128],
-        holders: [1; 8],
-        lifetime: [0; 8],
-        settled: [0; 8],
+    let counts = Counts {
         last,
         next,
         unclaimed: 0,
         payments: 0,
         inflight: 0,
         records: 0,
+    };
+    Desk {
+        balances: [0; 128],
+        holders: [1; 8],
+        lifetime: [0; 8],
+        settled: [0; 8],
+        counts,
     }
 }

@@ -72,9 +72,9 @@ replyFound o = o .reply
 abbrev piecesFound : TraceOutcome → List Lot
 piecesFound o = o .pieces
 
-module _ (b : Book) (work out : List Lot) (n : Nonce) (a : Answer) (work′ out′ : List Lot) (has : HasTables (b .desk .records) work out) (e : traceOutcomeOf a work′ out′ ≡ traceAnswer b work out n) where
-  count : length (historyOf b) ≡ b .desk .records
-  count = length-rows recordShape (b .desk .records) (b .history)
+module _ (b : Book) (work out : List Lot) (n : Nonce) (a : Answer) (work′ out′ : List Lot) (has : HasTables (b .desk .counts .records) work out) (e : traceOutcomeOf a work′ out′ ≡ traceAnswer b work out n) where
+  count : length (historyOf b) ≡ b .desk .counts .records
+  count = length-rows recordShape (b .desk .counts .records) (b .history)
 
   rows : Enough b (length work)
   rows = rw count (has .rows)

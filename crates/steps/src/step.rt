@@ -1,7 +1,6 @@
 // One call of the nine: answered, and its reply's line written.
 use crate::traced::put_trace;
 use desk::answers::is_done;
-use frames::counts_of;
 use refusals::call_reply;
 use replies::put_reply_line;
 use replies::reply_number;
@@ -38,7 +37,7 @@ pub fn step(
 ) -> Stepped
     ensures { λ r. ⌜ repliedOf r (now (inbox .exit)) (now (outbox .exit)) (now (history .exit)) (now (out .exit)) ≡ replied line (page (now (out .entry)) at) (answer (bookOf d (now (inbox .entry)) (now (outbox .entry)) (now (history .entry))) c) ⌝ }
 {
-    let counts = counts_of(d);
+    let counts = d.counts;
     let reply = call_reply(
         &d.balances,
         &d.holders,

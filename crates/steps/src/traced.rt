@@ -35,7 +35,7 @@ pub(crate) fn put_trace(
 ) -> Stepped
     ensures { λ r. ⌜ repliedOf r (now (inbox .entry)) (now (outbox .entry)) (now (history .entry)) (now (out .exit)) ≡ replied line (page (now (out .entry)) at) (answer (bookOf d (now (inbox .entry)) (now (outbox .entry)) (now (history .entry))) (Call.Trace n)) ⌝ }
 {
-    if d.records <= 32 {
+    if d.counts.records <= 32 {
         put_short_trace(d, inbox, outbox, history, out, at, line, n)
     } else {
         put_long_trace(d, inbox, outbox, history, out, at, line, n)
@@ -53,7 +53,7 @@ fn put_short_trace(
     line: u64,
     n: Nonce,
 ) -> Stepped
-    requires { ⌜ d .records ≤ 32 ⌝ }
+    requires { ⌜ d .counts .records ≤ 32 ⌝ }
     ensures { λ r. ⌜ repliedOf r (now (inbox .entry)) (now (outbox .entry)) (now (history .entry)) (now (out .exit)) ≡ replied line (page (now (out .entry)) at) (answer (bookOf d (now (inbox .entry)) (now (outbox .entry)) (now (history .entry))) (Call.Trace n)) ⌝ }
 {
     let none = Lot {
@@ -126,7 +126,7 @@ fn put_traced(
     line: u64,
     n: Nonce,
 ) -> Stepped
-    requires { ⌜ HasTables (d .records) (now work) (now pieces) ⌝ }
+    requires { ⌜ HasTables (d .counts .records) (now work) (now pieces) ⌝ }
     ensures { λ r. ⌜ repliedOf r (now (inbox .entry)) (now (outbox .entry)) (now (history .entry)) (now (out .exit)) ≡ replied line (page (now (out .entry)) at) (answer (bookOf d (now (inbox .entry)) (now (outbox .entry)) (now (history .entry))) (Call.Trace n)) ⌝ }
 {
     let answer = history::trace::trace(d, inbox, outbox, history, work, pieces, n);

@@ -27,7 +27,7 @@ unfolding book frameTest
 replied c =
     let b : Book = book (c .before .before .before .before .before .before .before .before .before .before) in
     frame-told b (Call.Claim (c .before .before .before .before .before .before .before .before .before .before .args .c)) (c .refuse .result) (c .before .claim-reply .result) refl
-    (λ f. c .before .claim-reply .ensures (view b) (waits-is b (c .before .before .before .before .before .before .before .before .before .before .args .c) (framed b f) ∙ sym (c .before .before .is-unclaimed .ensures)) (unfold view in length-rows recordShape (b .desk .records) (b .history)))
+    (λ f. c .before .claim-reply .ensures (view b) (waits-is b (c .before .before .before .before .before .before .before .before .before .before .args .c) (framed b f) ∙ sym (c .before .before .is-unclaimed .ensures)) (unfold view in length-rows recordShape (b .desk .counts .records) (b .history)))
     (c .refuse .ensures ∙ ap (λ (t : Bool). cond (not t) (Answer.Refused Refusal.BadBook) (c .before .claim-reply .result)) (c .before .before .before .before .framed .ensures))
 
 -- past the test the call is accepted

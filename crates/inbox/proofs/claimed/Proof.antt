@@ -18,20 +18,20 @@ add-more c =
 set-balance-requires : tie.Need-set-balance-requires
 set-balance-requires c κs = search needs
 
-sub-next : tie.Need-sub-next
-sub-next c = search needs
+sub-counts : tie.Need-sub-counts
+sub-counts c = search needs
 
-add-next : tie.Need-add-next
-add-next c = search needs
+add-counts : tie.Need-add-counts
+add-counts c = search needs
 
 returns : tie.Need-returns
 unfolding claimedDesk credit
 returns c =
-    let a = c .before .before .before .before .before .before .before .before .args in
-    let p = c .before .before .before .before .before .before .before .before .pre in
-    rw (c .before .before .set-balance .ensures, c .before .before .before .before .before .balance-of .ensures, balance-set (a .d .balances) (a .c .member) (a .c .asset) _ (p .member) (p .asset))
+    let a = c .before .before .before .before .before .before .before .before .before .args in
+    let p = c .before .before .before .before .before .before .before .before .before .pre in
+    rw (c .before .before .before .set-balance .ensures, c .before .before .before .before .before .before .balance-of .ensures, balance-set (a .d .balances) (a .c .member) (a .c .asset) _ (p .member) (p .asset))
 
 pub claimed-spec : {M : Type 1} → statement M
 claimed-spec =
     tie.close
-    (tie.spec balance-of-requires add-more set-balance-requires sub-next add-next returns)
+    (tie.spec balance-of-requires add-more set-balance-requires sub-counts add-counts returns)

@@ -20,17 +20,17 @@ book : tie.Start → Book
 book c = bookOf (c .args .t1) (c .args .inbox .now) (c .args .outbox .now) (c .args .history .now)
 
 -- the reply is the rules': the frame's test, and then the table's, which read what the desk has
-replied : (c : tie.After-refuse) → told (c .refuse .result) ≡ plain (replyNumber (book (c .before .before .before .before .before .before .before .before .before .before)) (Call.Deposit (c .before .before .before .before .before .before .before .before .before .before .args .x)))
+replied : (c : tie.After-refuse) → told (c .refuse .result) ≡ plain (replyNumber (book (c .before .before .before .before .before .before .before .before .before .before .before)) (Call.Deposit (c .before .before .before .before .before .before .before .before .before .before .before .args .x)))
 unfolding book frameTest view
 replied c =
-    let b : Book = book (c .before .before .before .before .before .before .before .before .before .before) in
-    frame-told b (Call.Deposit (c .before .before .before .before .before .before .before .before .before .before .args .x)) (c .refuse .result) (c .before .deposit-reply .result) refl
-    (λ f. c .before .deposit-reply .ensures (view b) refl refl (length-rows depositShape (b .desk .unclaimed) (b .inbox)))
-    (c .refuse .ensures ∙ ap (λ (t : Bool). cond (not t) (Answer.Refused Refusal.BadBook) (c .before .deposit-reply .result)) (c .before .before .before .before .before .framed .ensures))
+    let b : Book = book (c .before .before .before .before .before .before .before .before .before .before .before) in
+    frame-told b (Call.Deposit (c .before .before .before .before .before .before .before .before .before .before .before .args .x)) (c .refuse .result) (c .before .deposit-reply .result) refl
+    (λ f. c .before .deposit-reply .ensures (view b) refl refl (length-rows depositShape (b .desk .counts .unclaimed) (b .inbox)))
+    (c .refuse .ensures ∙ ap (λ (t : Bool). cond (not t) (Answer.Refused Refusal.BadBook) (c .before .deposit-reply .result)) (c .before .before .before .before .before .before .framed .ensures))
 
 -- past the test the call is accepted
-accepted : (c : tie.Else1) → Accepted (book (c .before .before .before .before .before .before .before .before .before .before .before .before)) (Call.Deposit (c .before .before .before .before .before .before .before .before .before .before .before .before .args .x))
-accepted c = accepts (book (c .before .before .before .before .before .before .before .before .before .before .before .before)) (Call.Deposit (c .before .before .before .before .before .before .before .before .before .before .before .before .args .x)) (c .before .before .refuse .result) (replied (c .before .before)) (sym (c .before .is-done .ensures) ∙ not-false (c .before .is-done .result) (c .if1 .left))
+accepted : (c : tie.Else1) → Accepted (book (c .before .before .before .before .before .before .before .before .before .before .before .before .before)) (Call.Deposit (c .before .before .before .before .before .before .before .before .before .before .before .before .before .args .x))
+accepted c = accepts (book (c .before .before .before .before .before .before .before .before .before .before .before .before .before)) (Call.Deposit (c .before .before .before .before .before .before .before .before .before .before .before .before .before .args .x)) (c .before .before .refuse .result) (replied (c .before .before)) (sym (c .before .is-done .ensures) ∙ not-false (c .before .is-done .result) (c .if1 .left))
 
 framed-requires : tie.Need-framed-requires
 framed-requires c κs = search needs
@@ -49,7 +49,7 @@ same-length c = search needs
 
 returns : tie.Need-returns
 unfolding book
-returns c = refuses (book (c .before .before .before .before .before .before .before .before .before .before .before .before)) (Call.Deposit (c .before .before .before .before .before .before .before .before .before .before .before .before .args .x)) (c .before .before .refuse .result) (replied (c .before .before)) (sym (c .before .is-done .ensures) ∙ not-true (c .before .is-done .result) (c .if1 .taken))
+returns c = refuses (book (c .before .before .before .before .before .before .before .before .before .before .before .before .before)) (Call.Deposit (c .before .before .before .before .before .before .before .before .before .before .before .before .before .args .x)) (c .before .before .refuse .result) (replied (c .before .before)) (sym (c .before .is-done .ensures) ∙ not-true (c .before .is-done .result) (c .if1 .taken))
 
 deposit-done-requires : tie.Need-deposit-done-requires
 unfolding book

@@ -18,16 +18,16 @@ add-more c =
 set-of-eight-requires : tie.Need-set-of-eight-requires
 set-of-eight-requires c κs = search needs
 
-add-next : tie.Need-add-next
-add-next c = search needs
+add-counts : tie.Need-add-counts
+add-counts c = search needs
 
 returns : tie.Need-returns
 unfolding depositedDesk raised total
 returns c =
-    let a = c .before .before .before .before .before .before .before .before .args in
-    let p = c .before .before .before .before .before .before .before .before .pre in
-    rw (c .before .before .set-of-eight .ensures, c .before .before .before .before .before .of-eight .ensures, eight-set (a .d .lifetime) (a .x .asset) _ (p .asset))
+    let a = c .before .before .before .before .before .before .before .before .before .args in
+    let p = c .before .before .before .before .before .before .before .before .before .pre in
+    rw (c .before .before .before .set-of-eight .ensures, c .before .before .before .before .before .before .of-eight .ensures, eight-set (a .d .lifetime) (a .x .asset) _ (p .asset))
 
 pub deposited-spec : {M : Type 1} → statement M
 deposited-spec =
-    tie.close (tie.spec of-eight-requires add-more set-of-eight-requires add-next returns)
+    tie.close (tie.spec of-eight-requires add-more set-of-eight-requires add-counts returns)

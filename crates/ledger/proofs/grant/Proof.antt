@@ -25,7 +25,7 @@ unfolding book frameTest view
 replied c =
     let b : Book = book (c .before .before .before .before .before .before .before .before .before) in
     frame-told b (Call.Grant (c .before .before .before .before .before .before .before .before .before .args .g)) (c .refuse .result) (c .before .grant-reply .result) refl
-    (λ h. c .before .grant-reply .ensures (view b) refl (length-rows recordShape (b .desk .records) (b .history)))
+    (λ h. c .before .grant-reply .ensures (view b) refl (length-rows recordShape (b .desk .counts .records) (b .history)))
     (c .refuse .ensures ∙ ap (λ (t : Bool). cond (not t) (Answer.Refused Refusal.BadBook) (c .before .grant-reply .result)) (c .before .before .before .before .framed .ensures))
 
 -- past the test the call is accepted

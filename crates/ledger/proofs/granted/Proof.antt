@@ -7,14 +7,14 @@ use Rattle.ledger.proofs.granted.Tie as tie
 set-of-eight-requires : tie.Need-set-of-eight-requires
 set-of-eight-requires c κs = search needs
 
-add-next : tie.Need-add-next
-add-next c = search needs
+add-counts : tie.Need-add-counts
+add-counts c = search needs
 
 returns : tie.Need-returns
 unfolding grantedDesk
 returns c =
-    let a = c .before .before .before .args in
-    rw (c .before .set-of-eight .ensures, eight-set (a .d .holders) (a .g .domain) _ (c .before .before .before .pre .domain))
+    let a = c .before .before .before .before .args in
+    rw (c .before .before .set-of-eight .ensures, eight-set (a .d .holders) (a .g .domain) _ (c .before .before .before .before .pre .domain))
 
 pub granted-spec : {M : Type 1} → statement M
-granted-spec = tie.close (tie.spec set-of-eight-requires add-next returns)
+granted-spec = tie.close (tie.spec set-of-eight-requires add-counts returns)

@@ -40,18 +40,18 @@ add-more c =
 set-balance-requires-2 : tie.Need-set-balance-requires-2
 set-balance-requires-2 c κs = search needs
 
-add-next : tie.Need-add-next
-add-next c = search needs
+add-counts : tie.Need-add-counts
+add-counts c = search needs
 
 returns : tie.Need-returns
 unfolding transferredDesk credit
 returns c =
-    let a = c .before .before .before .before .before .before .before .before .before .before .before .before .before .args in
-    let p = c .before .before .before .before .before .before .before .before .before .before .before .before .before .pre in
+    let a = c .before .before .before .before .before .before .before .before .before .before .before .before .before .before .args in
+    let p = c .before .before .before .before .before .before .before .before .before .before .before .before .before .before .pre in
     rw (
-      c .before .set-balance2 .ensures,
-      c .before .before .before .before .balance-of2 .ensures,
-      sent (c .before .before .before .before .before .before .before),
+      c .before .before .set-balance2 .ensures,
+      c .before .before .before .before .before .balance-of2 .ensures,
+      sent (c .before .before .before .before .before .before .before .before),
       balance-set (debit (a .d .balances) (a .t .from) (a .t .asset) (a .t .amount)) (a .t .to) (a .t .asset) _ (p .to) (p .asset),
     )
 
@@ -65,5 +65,5 @@ transferred-spec =
     balance-of-requires-2
     add-more
     set-balance-requires-2
-    add-next
+    add-counts
     returns)

@@ -20,7 +20,7 @@ book : tie.Start → Book
 book c = bookOf (c .args .d) (c .args .inbox .now) (c .args .outbox .now) (c .args .history .now)
 
 -- some payment waits, in an outbox of 32 rows
-waits : (c : tie.Start) → (c .args .d .inflight < c .args .d .payments) × (c .args .d .payments ≤ 32)
+waits : (c : tie.Start) → (c .args .d .counts .inflight < c .args .d .counts .payments) × (c .args .d .counts .payments ≤ 32)
 unfolding book
 waits c = (can-send (book c) (c .pre), framed (book c) (accepted-frame (book c) Call.Send (c .pre)) .payments)
 
@@ -30,17 +30,17 @@ mul-at c = omega (arith, waits (c .before .before .before .before))
 payment-at-requires : tie.Need-payment-at-requires
 payment-at-requires c κs = omega (arith, waits (c .before .before .before .before))
 
-add-after : tie.Need-add-after
-add-after c = omega (arith, waits (c .before .before .before .before .before .before))
+add-counts : tie.Need-add-counts
+add-counts c = omega (arith, waits (c .before .before .before .before .before .before .before))
 
 returns : tie.Need-returns
 unfolding book piecesOf doneAnswer
 returns c =
-    let s : tie.Start = c .before .before .before .before .before .before in
+    let s : tie.Start = c .before .before .before .before .before .before .before in
     let b : Book = book s in
     let f : Framed b = framed b (accepted-frame b Call.Send (s .pre)) in
-    lays b Call.Send (s .pre) (Answer.Sent (c .before .payment-at .result)) (sentDesk (s .args .d)) (s .args .inbox .now) (s .args .outbox .now) (s .args .history .now)
-    (ap (λ (p : Payment). told (Answer.Sent p)) (c .before .payment-at .ensures ∙ sym (waiting-row b f (waits s .0)))) refl (send-laid b f (waits s .0))
+    lays b Call.Send (s .pre) (Answer.Sent (c .before .before .payment-at .result)) (sentDesk (s .args .d)) (s .args .inbox .now) (s .args .outbox .now) (s .args .history .now)
+    (ap (λ (p : Payment). told (Answer.Sent p)) (c .before .before .payment-at .ensures ∙ sym (waiting-row b f (waits s .0)))) refl (send-laid b f (waits s .0))
 
 pub send-done-spec : {M : Type 1} → statement M
-send-done-spec = tie.close (tie.spec mul-at payment-at-requires add-after returns)
+send-done-spec = tie.close (tie.spec mul-at payment-at-requires add-counts returns)

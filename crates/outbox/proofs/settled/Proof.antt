@@ -19,20 +19,20 @@ add-more c =
 set-of-eight-requires : tie.Need-set-of-eight-requires
 set-of-eight-requires c κs = search needs
 
-sub-after : tie.Need-sub-after
-sub-after c = search needs
+sub-counts : tie.Need-sub-counts
+sub-counts c = search needs
 
-sub-after-2 : tie.Need-sub-after-2
-sub-after-2 c = search needs
+sub-counts-2 : tie.Need-sub-counts-2
+sub-counts-2 c = search needs
 
 returns : tie.Need-returns
 unfolding settledDesk raised total
 returns c =
-    let a = c .before .before .before .before .before .before .before .before .args in
-    let p = c .before .before .before .before .before .before .before .before .pre in
-    rw (c .before .before .set-of-eight .ensures, c .before .before .before .before .before .of-eight .ensures, eight-set (a .d .settled) (a .p .asset) _ (p .asset))
+    let a = c .before .before .before .before .before .before .before .before .before .args in
+    let p = c .before .before .before .before .before .before .before .before .before .pre in
+    rw (c .before .before .before .set-of-eight .ensures, c .before .before .before .before .before .before .of-eight .ensures, eight-set (a .d .settled) (a .p .asset) _ (p .asset))
 
 pub settled-spec : {M : Type 1} → statement M
 settled-spec =
     tie.close
-    (tie.spec of-eight-requires add-more set-of-eight-requires sub-after sub-after-2 returns)
+    (tie.spec of-eight-requires add-more set-of-eight-requires sub-counts sub-counts-2 returns)

@@ -26,7 +26,7 @@ unfolding book frameTest view
 replied c =
     let b : Book = book (c .before .before .before .before .before .before .before .before .before .before) in
     frame-told b (Call.Withdraw (c .before .before .before .before .before .before .before .before .before .before .args .w)) (c .refuse .result) (c .before .withdraw-reply .result) refl
-    (λ f. c .before .withdraw-reply .ensures (view b) refl (payments-count b) (length-rows recordShape (b .desk .records) (b .history)))
+    (λ f. c .before .withdraw-reply .ensures (view b) refl (payments-count b) (length-rows recordShape (b .desk .counts .records) (b .history)))
     (c .refuse .ensures ∙ ap (λ (t : Bool). cond (not t) (Answer.Refused Refusal.BadBook) (c .before .withdraw-reply .result)) (c .before .before .before .before .framed .ensures))
 
 -- past the test the call is accepted

@@ -28,7 +28,7 @@ put-record-requires : tie.Need-put-record-requires
 put-record-requires c κs = search needs
 
 withdrawn-requires : tie.Need-withdrawn-requires
-withdrawn-requires c κs = can (c .before .before .before .before .before .before .before .before .before .before .before .before)
+withdrawn-requires c κs = can (c .before .before .before .before .before .before .before .before .before .before .before .before .before)
 
 same-length : tie.Need-same-length
 same-length c = search needs
@@ -39,7 +39,7 @@ same-length-2 c = search needs
 returns : tie.Need-returns
 unfolding book told doneAnswer piecesOf
 returns c =
-    let s : tie.Start = c .before .before .before .before .before .before .before .before .before .before .before .before .before in
+    let s : tie.Start = c .before .before .before .before .before .before .before .before .before .before .before .before .before .before in
     let b : Book = book s in
     lays b (Call.Withdraw (s .args .w)) (s .pre) Answer.Done (c .withdrawn .result) (s .args .inbox .now) (c .before .before .before .before .before .before .before .put-payment .last .0) (c .before .before .before .put-record .last .0) refl refl
     (rw (c .withdrawn .ensures, c .before .before .before .before .before .before .before .put-payment .ensures, c .before .before .before .put-record .ensures) (withdraw-laid b (s .args .w) (framed b (accepted-frame b (Call.Withdraw (s .args .w)) (s .pre))) (can s)))

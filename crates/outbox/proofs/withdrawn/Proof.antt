@@ -17,18 +17,18 @@ set-balance-requires c κs = search needs
 add-number : tie.Need-add-number
 add-number c = search needs
 
-add-after : tie.Need-add-after
-add-after c = search needs
+add-counts : tie.Need-add-counts
+add-counts c = search needs
 
-add-after-2 : tie.Need-add-after-2
-add-after-2 c = search needs
+add-counts-2 : tie.Need-add-counts-2
+add-counts-2 c = search needs
 
 returns : tie.Need-returns
 unfolding withdrawnDesk debit
 returns c =
-    let a = c .before .before .before .before .before .before .before .before .before .before .args in
-    let p = c .before .before .before .before .before .before .before .before .before .before .pre in
-    rw (c .before .before .before .before .set-balance .ensures, c .before .before .before .before .before .before .before .balance-of .ensures, balance-set (a .d .balances) (a .w .member) (a .w .asset) _ (p .member) (p .asset))
+    let a = c .before .before .before .before .before .before .before .before .before .before .before .args in
+    let p = c .before .before .before .before .before .before .before .before .before .before .before .pre in
+    rw (c .before .before .before .before .before .set-balance .ensures, c .before .before .before .before .before .before .before .before .balance-of .ensures, balance-set (a .d .balances) (a .w .member) (a .w .asset) _ (p .member) (p .asset))
 
 pub withdrawn-spec : {M : Type 1} → statement M
 withdrawn-spec =
@@ -38,6 +38,6 @@ withdrawn-spec =
     sub-less
     set-balance-requires
     add-number
-    add-after
-    add-after-2
+    add-counts
+    add-counts-2
     returns)

@@ -2,7 +2,7 @@ use mathlib.Core.Path.{sym, _∙_}
 use borrow.Author.Tests.{not-true, not-false}
 use Rattle.rules.specs.State.{Book}
 use Rattle.rules.specs.Answer.{bookOf}
-use Rattle.frames.specs.Parts.{deskWith}
+use Rattle.desk.specs.Kept.{deskWith}
 use Rattle.refusals.proofs.Framing.{unframed-told}
 use borrow.Author.Needs.{needs}
 use Rattle.refusals.proofs.call_reply.Statement.{statement}

@@ -7,7 +7,7 @@ use Rattle.rules.specs.State.{Book, view}
 use Rattle.rules.specs.Answer.{bookOf, frameTest}
 use Rattle.rules.proofs.Laying.{length-rows}
 use Rattle.rules.proofs.Books.{framed, flight-count}
-use Rattle.frames.specs.Parts.{deskWith}
+use Rattle.desk.specs.Kept.{deskWith}
 use Rattle.inbox.proofs.Laws.{waits-is}
 use Rattle.outbox.proofs.Laws.{payments-count, waiting-count, flight-row}
 use Rattle.refusals.proofs.Framing.{framed-told, framed-traced}
@@ -86,25 +86,25 @@ returns : tie.Need-returns
 unfolding book frameTest view
 returns c = λ settled f.
     let b : Book = book (c .before .before .before .before .before .before .before .before) settled in
-    rw (c .before .before .before .c .given .1) (framed-told b _ _ refl f (c .deposit-reply .ensures (view b) refl refl (length-rows depositShape (b .desk .unclaimed) (b .inbox))))
+    rw (c .before .before .before .c .given .1) (framed-told b _ _ refl f (c .deposit-reply .ensures (view b) refl refl (length-rows depositShape (b .desk .counts .unclaimed) (b .inbox))))
 
 returns-2 : tie.Need-returns-2
 unfolding book frameTest view
 returns-2 c = λ settled f.
     let b : Book = book (c .before .before .before .before .before .before .before .before) settled in
-    rw (c .before .before .before .c2 .given .1) (framed-told b _ _ refl f (c .claim-reply .ensures (view b) (waits-is b _ (framed b f) ∙ sym (c .before .is-unclaimed .ensures)) (length-rows recordShape (b .desk .records) (b .history))))
+    rw (c .before .before .before .c2 .given .1) (framed-told b _ _ refl f (c .claim-reply .ensures (view b) (waits-is b _ (framed b f) ∙ sym (c .before .is-unclaimed .ensures)) (length-rows recordShape (b .desk .counts .records) (b .history))))
 
 returns-3 : tie.Need-returns-3
 unfolding book frameTest view
 returns-3 c = λ settled f.
     let b : Book = book (c .before .before .before .before .before .before .before) settled in
-    rw (c .before .before .c3 .given .1) (framed-told b _ _ refl f (c .transfer-reply .ensures (view b) refl (length-rows recordShape (b .desk .records) (b .history))))
+    rw (c .before .before .c3 .given .1) (framed-told b _ _ refl f (c .transfer-reply .ensures (view b) refl (length-rows recordShape (b .desk .counts .records) (b .history))))
 
 returns-4 : tie.Need-returns-4
 unfolding book frameTest view
 returns-4 c = λ settled f.
     let b : Book = book (c .before .before .before .before .before .before .before) settled in
-    rw (c .before .before .c4 .given .1) (framed-told b _ _ refl f (c .withdraw-reply .ensures (view b) refl (payments-count b) (length-rows recordShape (b .desk .records) (b .history))))
+    rw (c .before .before .c4 .given .1) (framed-told b _ _ refl f (c .withdraw-reply .ensures (view b) refl (payments-count b) (length-rows recordShape (b .desk .counts .records) (b .history))))
 
 returns-5 : tie.Need-returns-5
 unfolding book frameTest view
@@ -122,7 +122,7 @@ returns-7 : tie.Need-returns-7
 unfolding book frameTest view
 returns-7 c = λ settled f.
     let b : Book = book (c .before .before .before .before .before .before .before) settled in
-    rw (c .before .before .c6 .given .1) (framed-told b _ _ refl f (c .grant-reply .ensures (view b) refl (length-rows recordShape (b .desk .records) (b .history))))
+    rw (c .before .before .c6 .given .1) (framed-told b _ _ refl f (c .grant-reply .ensures (view b) refl (length-rows recordShape (b .desk .counts .records) (b .history))))
 
 returns-8 : tie.Need-returns-8
 unfolding book frameTest view

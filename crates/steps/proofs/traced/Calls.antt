@@ -66,7 +66,7 @@ to-puts-traced 𝓤 H A mem run binb oinb ninb inbs boutb ooutb noutb outbs bhis
 
 module _ {M : Type 1} {𝓤 : URA M} {H : Heap 𝓤} {A : Atoms 𝓤} {K : Type 0} {W : Given 𝓤 H A} {Γ : List (Item 𝓤)} {E : Env 𝓤 H} {p : Post 𝓤 H} {d : Place} {xs : List Operand} {rest : Body} where
   pub puts-traced : K → {κinb : Lft} {qinb : Share} {γinb : GName} {κoutb : Lft} {qoutb : Share} {γoutb : GName} {κhist : Lft} {qhist : Share} {γhist : GName} {κbyte : Lft} {qbyte : Share} {γbyte : GName} (binb oinb ninb : ℕ) (inbs : List ℕ) (boutb ooutb noutb : ℕ) (outbs : List ℕ) (bhist ohist nhist : ℕ) (hists : List ℕ) (bwork nwork : ℕ) (blot nlot : ℕ) (bbyte obyte nbyte : ℕ) (bytes : List ℕ) (dk : Desk) (pos : ℕ) (line : ℕ) (non : Nonce) (mem : Memory → SProp 𝓤) (run : Routine → Fun 𝓤) (𝓣 : Tables 𝓤 H) → Triple 𝓤 (𝓣 .C #put-traced) (PutTraced 𝓤 H A mem run)
-      → Room R nwork → Room R nlot → length bytes ≡ nbyte → Room u8 nbyte → Is Desks dk (machK dk ∷ []) → pos < 2 ^ 64 → line < 2 ^ 64 → Is Nonces non (machN non ∷ []) → HasTables (dk .records) (replicate nwork noLot) (replicate nlot noLot)
+      → Room R nwork → Room R nlot → length bytes ≡ nbyte → Room u8 nbyte → Is Desks dk (machK dk ∷ []) → pos < 2 ^ 64 → line < 2 ^ 64 → Is Nonces non (machN non ∷ []) → HasTables (dk .counts .records) (replicate nwork noLot) (replicate nlot noLot)
       → ((νwork : ℕ) (δwork : GName) (νlot : ℕ) (δlot : GName) (νbyte : ℕ) (δbyte : GName) → Opds K W (raw (PutTraced 𝓤 H A mem run .pre (to-puts-traced 𝓤 H A mem run binb oinb ninb inbs boutb ooutb noutb outbs bhist ohist nhist hists bwork nwork blot nlot bbyte obyte nbyte bytes dk pos line non νwork δwork νlot δlot νbyte δbyte κinb qinb γinb κoutb qoutb γoutb κhist qhist γhist)) ∷ ‵ (ShrSlice (named 0) κinb u64 .own (at-list binb oinb γinb inbs) (sv binb oinb ninb ∷ [])) ∷ ‵ (ShrSlice (named 0) κoutb u64 .own (at-list boutb ooutb γoutb outbs) (sv boutb ooutb noutb ∷ [])) ∷ ‵ (ShrSlice (named 0) κhist u64 .own (at-list bhist ohist γhist hists) (sv bhist ohist nhist ∷ [])) ∷ ‵ (flent (νwork ∷ []) (Held R nwork bwork 0 δwork)) ∷ ‵ (flent (νlot ∷ []) (Held R nlot blot 0 δlot)) ∷ ‵ (LentAgain u8 κbyte (νbyte ∷ []) qbyte γbyte bbyte obyte δbyte bytes) ∷ Γ) E xs (machK dk ∷ sv binb oinb ninb ∷ sv boutb ooutb noutb ∷ sv bhist ohist nhist ∷ sv bwork 0 nwork ∷ sv blot 0 nlot ∷ sv bbyte obyte nbyte ∷ vint w64 pos ∷ vint w64 line ∷ machN non ∷ []))
       → ((r : Stepped) (bytew : List ℕ) → length bytew ≡ length bytes → repliedOf r inbs outbs hists bytew ≡ replied line (page bytes pos) (answer (bookOf dk inbs outbs hists) (Call.Trace non)) → Is Steps r (machS r ∷ []) → Seq K W (‵ (ShrSlice (named 0) κinb u64 .own (at-list binb oinb γinb inbs) (sv binb oinb ninb ∷ [])) ∷ ‵ (flft κinb qinb) ∷ ‵ (ShrSlice (named 0) κoutb u64 .own (at-list boutb ooutb γoutb outbs) (sv boutb ooutb noutb ∷ [])) ∷ ‵ (flft κoutb qoutb) ∷ ‵ (ShrSlice (named 0) κhist u64 .own (at-list bhist ohist γhist hists) (sv bhist ohist nhist ∷ [])) ∷ ‵ (flft κhist qhist) ∷ ‵ (froom (tyArray T′.mir nwork) bwork 0) ∷ ‵ (froom (tyArray T′.mir nlot) blot 0) ∷ ‵ (MutSlice (named 0) κbyte u8 .own (at-list bbyte obyte γbyte bytew) (sv bbyte obyte nbyte ∷ [])) ∷ ‵ (flft κbyte qbyte) ∷ Γ) (lands (𝓣 .C) (𝓣 .Λ) E d (machS r) rest p))
       → Seq K W (‵ (ShrSlice (named 0) κinb u64 .own (at-list binb oinb γinb inbs) (sv binb oinb ninb ∷ [])) ∷ ‵ (flft κinb qinb) ∷ ‵ (ShrSlice (named 0) κoutb u64 .own (at-list boutb ooutb γoutb outbs) (sv boutb ooutb noutb ∷ [])) ∷ ‵ (flft κoutb qoutb) ∷ ‵ (ShrSlice (named 0) κhist u64 .own (at-list bhist ohist γhist hists) (sv bhist ohist nhist ∷ [])) ∷ ‵ (flft κhist qhist) ∷ ‵ (fat fullShare (tyArray T′.mir nwork) bwork 0 (arrayVal (replicate nwork (machOf noLot)))) ∷ ‵ (fat fullShare (tyArray T′.mir nlot) blot 0 (arrayVal (replicate nlot (machOf noLot)))) ∷ ‵ (MutSlice (named 0) κbyte u8 .own (at-list bbyte obyte γbyte bytes) (sv bbyte obyte nbyte ∷ [])) ∷ ‵ (flft κbyte qbyte) ∷ Γ) (runs (𝓣 .C) (𝓣 .Λ) E (seq (call #put-traced xs d) rest) p)
@@ -87,7 +87,7 @@ module _ {M : Type 1} {𝓤 : URA M} {H : Heap 𝓤} {A : Atoms 𝓤} {K : Type 
       fjoin t $ move t (7 ∷ 0 ∷ []) $ fjoin t $ move t (8 ∷ 0 ∷ []) $ fjoin t $ move t (9 ∷ 0 ∷ []) $ fjoin t $
       owned t Desks (Is Desks) ((LL.makes Dk.the-type Dk′.the-plain) 𝓤 H A) dk _ isdk $ fjoin t $ nothing t $ move t (3 ∷ 0 ∷ []) $ join t $ move t (4 ∷ 0 ∷ []) $ join t $
       move t (5 ∷ 0 ∷ []) $ join t $ move t (10 ∷ 0 ∷ []) $ join t $ move t (9 ∷ 0 ∷ []) $ join t $ move t (8 ∷ 0 ∷ []) $ join t $ join t $
-      use0 W (raw (fact 𝓤 (HasTables (dk .records) (replicate nwork noLot) (replicate nlot noLot)))) (factI 𝓤 (HasTables (dk .records) (replicate nwork noLot) (replicate nlot noLot)) (emp 𝓤) req) $
+      use0 W (raw (fact 𝓤 (HasTables (dk .counts .records) (replicate nwork noLot) (replicate nlot noLot)))) (factI 𝓤 (HasTables (dk .counts .records) (replicate nwork noLot) (replicate nlot noLot)) (emp 𝓤) req) $
       move t (1 ∷ 0 ∷ []) $ join t $ move t (0 ∷ 6 ∷ 5 ∷ 4 ∷ 3 ∷ 2 ∷ 1 ∷ []) $
       use1 W (raw (PutTraced 𝓤 H A mem run .pre (to-puts-traced 𝓤 H A mem run binb oinb ninb inbs boutb ooutb noutb outbs bhist ohist nhist hists bwork nwork blot nlot bbyte obyte nbyte bytes dk pos line non νwork δwork νlot δlot νbyte δbyte κinb qinb γinb κoutb qoutb γoutb κhist qhist γhist))) (id⊢ 𝓤 _) $
       calls-at t (fmOf 𝓤 H (W .laws) 𝓣) (PutTraced 𝓤 H A mem run) known (to-puts-traced 𝓤 H A mem run binb oinb ninb inbs boutb ooutb noutb outbs bhist ohist nhist hists bwork nwork blot nlot bbyte obyte nbyte bytes dk pos line non νwork δwork νlot δlot νbyte δbyte κinb qinb γinb κoutb qoutb γoutb κhist qhist γhist) (os νwork δwork νlot δlot νbyte δbyte) (λ w.

@@ -61,7 +61,7 @@ use Rattle.desk.specs.Parts.{isDone}
 use Rattle.history.specs.Tracing.{traceOutcomeOf}
 use Rattle.history.proofs.Traced.{trace-refused, few-records, can-trace, trace-done}
 use Rattle.takings.proofs.Loop.{big-lit}
-use Rattle.takings.proofs.Locals.{local, part, slice-at}
+use Rattle.takings.proofs.Locals.{local, part, part-of, slice-at}
 use Rattle.takings.proofs.Values.{R, machOf, no-number-is, zeros-is, Desks, machK, Nonces, machN, Answers, machA, at-list, sv, places}
 use Rattle.history.proofs.Table.{table-is}
 use Rattle.history.proofs.TraceCalls.{ReplyTo, refuses, IsDone, asks-done, Traced, traces-in}
@@ -100,8 +100,8 @@ all-room : Room R all
 all-room = (lit< tt, lit< tt)
 
 -- ---- the values read and made
-records-fit : (d : Desk) → Is Desks d (machK d ∷ []) → d .records < 2 ^ 64
-records-fit d is = LL.owed Dk.the-type Dk′.the-laws d _ is .1 .1 .1 .1 .1 .1 .1 .1 .1 .0 .1
+records-fit : (d : Desk) → Is Desks d (machK d ∷ []) → d .counts .records < 2 ^ 64
+records-fit d is = LL.owed Dk.the-type Dk′.the-laws d _ is .1 .1 .1 .1 .0 .1 .1 .1 .1 .1 .1 .1 .0 .1
 
 nonce-fits : (n : Nonce) → Is Nonces n (machN n ∷ []) → n .0 < 2 ^ 64
 nonce-fits n is = LL.owed Nn.the-type Nn′.the-laws n _ is .0 .1
@@ -195,7 +195,7 @@ module _ {M : Type 1} (𝓤 : URA M) (H : Heap 𝓤) (A : Atoms 𝓤) (W : Given
         let well : isDone reply ≡ true = sym asked ∙ was-true done′ goes-on in
         assigns ! (agg ! (and-then ! (lit ! tt) (no-more !))) (from ! (stop !)) (init ! 34 refl (LL.lawful Dn.the-type Dn′.the-laws 𝓤 H A W .typed (record { 0 = 0 }) _ no-number-is .0)) $
         assigns ! (agg ! (and-then ! (lit ! tt) (and-then ! (lit ! tt) (and-then ! (local ! 34 refl) (and-then ! (lit ! tt) (no-more !)))))) (from ! (stop !)) (init ! 52 refl (LL.lawful T.the-type T′.the-laws 𝓤 H A W .typed noLot _ zeros-is .0)) $
-        assigns ! (bin ! (part ! 68 9 refl refl refl) (lit ! tt) tt) (from ! (stop !)) (store ! 38 refl (tt, tt)) $ first ! $ branches ! (local ! 38 refl)
+        assigns ! (bin ! (part-of ! 68 4 5 refl refl refl refl refl) (lit ! tt) tt) (from ! (stop !)) (store ! 38 refl (tt, tt)) $ first ! $ branches ! (local ! 38 refl)
         -- a table of few rows is made
         (λ short. assigns ! (rep ! few (local ! 52 refl)) (from ! (stop !)) (init ! 50 refl (array-lawful 𝓤 H A W R (LL.lawful T.the-type T′.the-laws 𝓤 H A W) few .typed (replicate few noLot) _ (table-is R noLot (machOf noLot) zeros-is few) .0)) $
         assigns ! (slice-at ! 60 refl refl refl) (from ! (stop !)) (init ! 32 refl (tt, tt)) $
@@ -204,10 +204,10 @@ module _ {M : Type 1} (𝓤 : URA M) (H : Heap 𝓤) (A : Atoms 𝓤) (W : Given
         assigns ! (agg ! (and-then ! (local ! 28 refl) (and-then ! (lit ! tt) (no-more !)))) (from ! (stop !)) (init ! 26 refl (tt, (tt, (record { fits = lit< tt }, tt)))) $
         assigns ! (slice-at ! 58 refl refl refl) (from ! (stop !)) (init ! 24 refl (tt, tt)) $
         assigns ! (agg ! (and-then ! (local ! 24 refl) (and-then ! (part ! 58 1 refl refl refl) (no-more !)))) (from ! (stop !)) (init ! 22 refl (tt, (tt, (record { fits = roomout .0 }, tt)))) $
-        let can = can-trace (bookOf dk inbs outbs hists) works outs non reply tells well (replicate few noLot) (rw (length-replicate few noLot) (leb→le (dk .records) few short)) in
+        let can = can-trace (bookOf dk inbs outbs hists) works outs non reply tells well (replicate few noLot) (rw (length-replicate few noLot) (leb→le (dk .counts .records) few short)) in
         -- and lent, with the others
         move ! (4 ∷ 5 ∷ 6 ∷ 7 ∷ 50 ∷ 8 ∷ 9 ∷ []) $
-        traces-in ! bhist ohist nhist hists bwork owork nwork works l₁₀ few bout oout nout outs (dk .records) (non .0) mem run 𝓣 known-traced refl roomwork few-room refl roomout (records-fit dk isdk) (nonce-fits non isnon) can (λ ν δ ν′ δ′ ν″ δ″. (and-then ! (local ! 60 refl) (and-then ! (part ! 66 9 refl refl refl) (and-then ! (part ! 54 0 refl refl refl) (and-then ! (local ! 29 refl) (and-then ! (local ! 25 refl) (and-then ! (local ! 21 refl) (no-more !)))))))) (λ count w′ o′ samew sameo t fits.
+        traces-in ! bhist ohist nhist hists bwork owork nwork works l₁₀ few bout oout nout outs (dk .counts .records) (non .0) mem run 𝓣 known-traced refl roomwork few-room refl roomout (records-fit dk isdk) (nonce-fits non isnon) can (λ ν δ ν′ δ′ ν″ δ″. (and-then ! (local ! 60 refl) (and-then ! (part-of ! 66 4 5 refl refl refl refl refl) (and-then ! (part ! 54 0 refl refl refl) (and-then ! (local ! 29 refl) (and-then ! (local ! 25 refl) (and-then ! (local ! 21 refl) (no-more !)))))))) (λ count w′ o′ samew sameo t fits.
         move ! (7 ∷ 8 ∷ 9 ∷ 10 ∷ 0 ∷ 1 ∷ 2 ∷ 3 ∷ 5 ∷ 6 ∷ 11 ∷ 12 ∷ 13 ∷ 14 ∷ 15 ∷ 16 ∷ 17 ∷ 18 ∷ 19 ∷ 20 ∷ 21 ∷ 22 ∷ 23 ∷ 24 ∷ 25 ∷ 26 ∷ 27 ∷ 28 ∷ 29 ∷ 30 ∷ 31 ∷ 32 ∷ 33 ∷ 34 ∷ 35 ∷ 36 ∷ 37 ∷ 38 ∷ 39 ∷ 40 ∷ 41 ∷ 42 ∷ 43 ∷ 44 ∷ 45 ∷ 46 ∷ 47 ∷ 48 ∷ 49 ∷ 50 ∷ 4 ∷ []) $
         -- its room is back in its place
         land ! (from ! (stop !)) (init ! 48 refl (tt, record { fits = fits })) $
@@ -237,7 +237,7 @@ module _ {M : Type 1} (𝓤 : URA M) (H : Heap 𝓤) (A : Atoms 𝓤) (W : Given
         let can = can-trace (bookOf dk inbs outbs hists) works outs non reply tells well (replicate all noLot) (rw (length-replicate all noLot) (few-records (bookOf dk inbs outbs hists) works outs non reply tells well)) in
         -- and lent, with the others
         move ! (4 ∷ 5 ∷ 6 ∷ 7 ∷ 46 ∷ 8 ∷ 9 ∷ []) $
-        traces-in ! bhist ohist nhist hists bwork owork nwork works l₁₂ all bout oout nout outs (dk .records) (non .0) mem run 𝓣 known-traced refl roomwork all-room refl roomout (records-fit dk isdk) (nonce-fits non isnon) can (λ ν δ ν′ δ′ ν″ δ″. (and-then ! (local ! 60 refl) (and-then ! (part ! 66 9 refl refl refl) (and-then ! (part ! 54 0 refl refl refl) (and-then ! (local ! 17 refl) (and-then ! (local ! 13 refl) (and-then ! (local ! 9 refl) (no-more !)))))))) (λ count w′ o′ samew sameo t fits.
+        traces-in ! bhist ohist nhist hists bwork owork nwork works l₁₂ all bout oout nout outs (dk .counts .records) (non .0) mem run 𝓣 known-traced refl roomwork all-room refl roomout (records-fit dk isdk) (nonce-fits non isnon) can (λ ν δ ν′ δ′ ν″ δ″. (and-then ! (local ! 60 refl) (and-then ! (part-of ! 66 4 5 refl refl refl refl refl) (and-then ! (part ! 54 0 refl refl refl) (and-then ! (local ! 17 refl) (and-then ! (local ! 13 refl) (and-then ! (local ! 9 refl) (no-more !)))))))) (λ count w′ o′ samew sameo t fits.
         move ! (7 ∷ 8 ∷ 9 ∷ 10 ∷ 0 ∷ 1 ∷ 2 ∷ 3 ∷ 5 ∷ 6 ∷ 11 ∷ 12 ∷ 13 ∷ 14 ∷ 15 ∷ 16 ∷ 17 ∷ 18 ∷ 19 ∷ 20 ∷ 21 ∷ 22 ∷ 23 ∷ 24 ∷ 25 ∷ 26 ∷ 27 ∷ 28 ∷ 29 ∷ 30 ∷ 31 ∷ 32 ∷ 33 ∷ 34 ∷ 35 ∷ 36 ∷ 37 ∷ 38 ∷ 39 ∷ 40 ∷ 41 ∷ 42 ∷ 43 ∷ 44 ∷ 45 ∷ 46 ∷ 4 ∷ []) $
         -- its room is back in its place
         land ! (from ! (stop !)) (init ! 44 refl (tt, record { fits = fits })) $

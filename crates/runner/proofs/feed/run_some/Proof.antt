@@ -56,7 +56,7 @@ heard : (c : tie.After-hear Inv-loop μ-loop) {x : Heard} → c .hear .result �
 heard c e =
     let v = c .before .before .before .before .before .before .before .before .before .before .before .before .before .before .before .before .before .before .before .before .before .before .before .loop in
     let l = c .before .before .before .before .before .before .before .before .before .before .before .before .whole-line .result in
-    subst (Hears (bookOf (v .desk) (v .inbox) (v .outbox) (v .history)) l) e (rw (c .before .before .before .before .before .before .before .before .before .counts-of .ensures) at (c .hear .ensures))
+    subst (Hears (bookOf (v .desk) (v .inbox) (v .outbox) (v .history)) l) e (c .hear .ensures)
 
 -- and what the turn leaves, whichever of the two it is
 turned : (c : tie.At-match-came Inv-loop μ-loop) → Turned (bookOf (c .before .before .before .before .before .before .before .before .before .before .before .before .before .before .before .before .before .before .before .before .before .before .before .before .loop .desk) (c .before .before .before .before .before .before .before .before .before .before .before .before .before .before .before .before .before .before .before .before .before .before .before .before .loop .inbox) (c .before .before .before .before .before .before .before .before .before .before .before .before .before .before .before .before .before .before .before .before .before .before .before .before .loop .outbox) (c .before .before .before .before .before .before .before .before .before .before .before .before .before .before .before .before .before .before .before .before .before .before .before .before .loop .history)) (c .before .before .before .before .before .before .before .before .before .before .before .before .before .whole-line .result) (c .before .before .before .before .before .before .before .before .before .before .before .before .before .before .before .before .before .before .before .before .before .before .before .before .loop .w) (c .before .before .before .before .before .before .before .before .before .before .before .before .before .before .before .before .before .before .before .before .before .before .before .before .loop .out) (record { desk = c .match .desk; written = c .match .w }) (c .match .inbox) (c .match .outbox) (c .match .history) (c .match .out)
@@ -175,9 +175,6 @@ slice-aggregate-whole-line c = sym (length-take-le _ _ (c .before .before .befor
 
 whole-line-requires : tie.Need-whole-line-requires Inv-loop μ-loop
 whole-line-requires c κs = (c .before .before .before .before .before .before .before .before .before .before .loop .inv .0 .ready .held, c .before .before .before .before .before .before .before .before .before .before .loop .inv .0 .ready .size)
-
-counts-of-requires : tie.Need-counts-of-requires Inv-loop μ-loop
-counts-of-requires c κs = search needs
 
 hear-requires : tie.Need-hear-requires Inv-loop μ-loop
 hear-requires c κs = search needs
@@ -311,7 +308,6 @@ run-some-spec =
     returns-3
     slice-aggregate-whole-line
     whole-line-requires
-    counts-of-requires
     hear-requires
     enum-known-heard
     answer-said-requires

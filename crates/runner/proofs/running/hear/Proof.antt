@@ -1,7 +1,7 @@
 use mathlib.Core.Path.{sym, _∙_}
 use Rattle.rules.specs.State.{Book}
 use Rattle.rules.specs.Answer.{bookOf}
-use Rattle.frames.specs.Parts.{deskWith}
+use Rattle.desk.specs.Kept.{deskWith}
 use Rattle.runner.proofs.Answering.{malformed-said, call-said, call-due}
 use borrow.Author.Needs.{needs}
 use Rattle.runner.proofs.running.hear.Statement.{statement}

@@ -11,9 +11,6 @@ use borrow.Author.Needs.{needs}
 use Rattle.steps.proofs.step.step.Statement.{statement}
 use Rattle.steps.proofs.step.step.Tie as tie
 
-counts-of-requires : tie.Need-counts-of-requires
-counts-of-requires c κs = search needs
-
 call-reply-requires : tie.Need-call-reply-requires
 call-reply-requires c κs = search needs
 
@@ -40,7 +37,7 @@ returns c =
     let a = c .before .before .before .before .before .before .before .before .before .before .before .before .before .before .before .before .before .before .before .before .args in
     let b : Book = bookOf (a .t1) (a .inbox .now) (a .outbox .now) (a .history .now) in
     let y = c .before .before .before .before .before .before .call-reply in
-    let tells : told (y .result) ≡ plain (replyNumber b (a .c)) = rw (y .ensures, c .before .before .before .before .before .before .before .before .before .before .before .before .before .before .before .counts-of .ensures) in
+    let tells : told (y .result) ≡ plain (replyNumber b (a .c)) = y .ensures in
     let w = c .before .before .put-answered in
     let p = page (a .out .now) (a .at) in
     let refused = sym (c .before .before .before .before .before .is-done .ensures) ∙ not-true (c .before .before .before .before .before .is-done .result) (c .before .before .before .before .if1 .taken) in
@@ -51,7 +48,7 @@ step-done-requires c κs =
     let a = c .before .before .before .before .before .before .before .before .before .before .before .before .before .before .before .before .before .before .before .before .args in
     let b : Book = bookOf (a .t1) (a .inbox .now) (a .outbox .now) (a .history .now) in
     let y = c .before .before .before .before .before .before .call-reply in
-    let tells : told (y .result) ≡ plain (replyNumber b (a .c)) = rw (y .ensures, c .before .before .before .before .before .before .before .before .before .before .before .before .before .before .before .counts-of .ensures) in
+    let tells : told (y .result) ≡ plain (replyNumber b (a .c)) = y .ensures in
     accepts b (a .c) (y .result) tells (sym (c .before .before .before .before .before .is-done .ensures) ∙ not-false (c .before .before .before .before .before .is-done .result) (c .before .before .before .before .if1 .left))
 
 same-length-5 : tie.Need-same-length-5
@@ -73,7 +70,6 @@ pub step-spec : {M : Type 1} → statement M
 step-spec =
     tie.close
     (tie.spec
-    counts-of-requires
     call-reply-requires
     is-done-requires
     put-answered-requires

@@ -148,7 +148,7 @@ module _ {M : Type 1} (𝓤 : URA M) (H : Heap 𝓤) (A : Atoms 𝓤) (W : Given
         assigns ! (agg ! (and-then ! (local ! 10 refl) (and-then ! (part ! 34 1 refl refl refl) (no-more !)))) (from ! (stop !)) (init ! 8 refl (tt, (tt, (record { fits = roombyte .0 }, tt)))) $
         -- and lent
         move ! (0 ∷ 1 ∷ 2 ∷ 3 ∷ 4 ∷ 5 ∷ 24 ∷ 22 ∷ 6 ∷ 7 ∷ []) $
-        puts-traced ! binb oinb ninb inbs boutb ooutb noutb outbs bhist ohist nhist hists l₁₀ size l₁₁ size bbyte obyte nbyte bytes dk pos line non mem run 𝓣 known-traced size-room size-room refl roombyte isdk ispos isline isnon (has-tables (dk .records) size (λ h. h)) (λ ν δ ν′ δ′ ν″ δ″. (and-then ! (local ! 39 refl) (and-then ! (local ! 37 refl) (and-then ! (local ! 35 refl) (and-then ! (local ! 33 refl) (and-then ! (local ! 15 refl) (and-then ! (local ! 11 refl) (and-then ! (local ! 7 refl) (and-then ! (local ! 29 refl) (and-then ! (local ! 27 refl) (and-then ! (local ! 25 refl) (no-more !)))))))))))) (λ r out′ sameb e isr.
+        puts-traced ! binb oinb ninb inbs boutb ooutb noutb outbs bhist ohist nhist hists l₁₀ size l₁₁ size bbyte obyte nbyte bytes dk pos line non mem run 𝓣 known-traced size-room size-room refl roombyte isdk ispos isline isnon (has-tables (dk .counts .records) size (λ h. h)) (λ ν δ ν′ δ′ ν″ δ″. (and-then ! (local ! 39 refl) (and-then ! (local ! 37 refl) (and-then ! (local ! 35 refl) (and-then ! (local ! 33 refl) (and-then ! (local ! 15 refl) (and-then ! (local ! 11 refl) (and-then ! (local ! 7 refl) (and-then ! (local ! 29 refl) (and-then ! (local ! 27 refl) (and-then ! (local ! 25 refl) (no-more !)))))))))))) (λ r out′ sameb e isr.
         move ! (0 ∷ 1 ∷ 2 ∷ 3 ∷ 4 ∷ 5 ∷ 8 ∷ 9 ∷ 10 ∷ 11 ∷ 12 ∷ 13 ∷ 14 ∷ 15 ∷ 16 ∷ 17 ∷ 18 ∷ 19 ∷ 20 ∷ 21 ∷ 22 ∷ 23 ∷ 7 ∷ 24 ∷ 6 ∷ []) $
         -- their rooms are back in their places
         land ! (from ! (stop !)) (init ! 44 refl (LL.lawful St.the-type St′.the-laws 𝓤 H A W .typed r _ isr .0)) $

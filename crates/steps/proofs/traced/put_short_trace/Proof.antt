@@ -120,7 +120,7 @@ module _ {M : Type 1} (𝓤 : URA M) (H : Heap 𝓤) (A : Atoms 𝓤) (W : Given
       owned ! Steps (Is Steps) ((LL.makes St.the-type St′.the-plain) 𝓤 H A) r _ isr $ done !
 
   module _ (𝓣 : Tables 𝓤 H) (known-traced : Triple 𝓤 (𝓣 .C #put-traced) (PutTraced 𝓤 H A mem run)) where
-    walk : Is Desks dk (machK dk ∷ []) → Room u64 ninb → Room u64 noutb → Room u64 nhist → Room u8 nbyte → pos < 2 ^ 64 → line < 2 ^ 64 → Is Nonces non (machN non ∷ []) → dk .records ≤ size → ent 𝓤 (onEntry 𝓤 H A f.signature (κinb, (κoutb, (κhist, (κbyte, tt)))) (qinb, (qoutb, (qhist, (qbyte, tt)))) a at) (WpFn 𝓤 H (𝓣 .C) (𝓣 .Λ) code.function (machK dk ∷ sv binb oinb ninb ∷ sv boutb ooutb noutb ∷ sv bhist ohist nhist ∷ sv bbyte obyte nbyte ∷ vint w64 pos ∷ vint w64 line ∷ machN non ∷ []) Post)
+    walk : Is Desks dk (machK dk ∷ []) → Room u64 ninb → Room u64 noutb → Room u64 nhist → Room u8 nbyte → pos < 2 ^ 64 → line < 2 ^ 64 → Is Nonces non (machN non ∷ []) → dk .counts .records ≤ size → ent 𝓤 (onEntry 𝓤 H A f.signature (κinb, (κoutb, (κhist, (κbyte, tt)))) (qinb, (qoutb, (qhist, (qbyte, tt)))) a at) (WpFn 𝓤 H (𝓣 .C) (𝓣 .Λ) code.function (machK dk ∷ sv binb oinb ninb ∷ sv boutb ooutb noutb ∷ sv bhist ohist nhist ∷ sv bbyte obyte nbyte ∷ vint w64 pos ∷ vint w64 line ∷ machN non ∷ []) Post)
     walk isdk roominb roomoutb roomhist roombyte ispos isline isnon req =
         qed W ((‵ (flft κinb qinb) ⊛ (‵ (flft κoutb qoutb) ⊛ (‵ (flft κhist qhist) ⊛ (‵ (flft κbyte qbyte) ⊛ ‵ ftrue)))) ∷ ‵ (owns (Desks ∷ ShrSlice (named 0) κinb u64 ∷ ShrSlice (named 1) κoutb u64 ∷ ShrSlice (named 2) κhist u64 ∷ MutSlice (named 3) κbyte u8 ∷ usize ∷ u64 ∷ Nonces ∷ []) a at) ∷ []) ∵
         split ! $ move ! (1 ∷ []) $ split ! $ move ! (1 ∷ []) $ split ! $ move ! (1 ∷ []) $ split ! $ move ! (5 ∷ []) $ fsplit ! $ move ! (1 ∷ []) $ fsplit ! $ move ! (1 ∷ []) $ fsplit ! $
@@ -147,7 +147,7 @@ module _ {M : Type 1} (𝓤 : URA M) (H : Heap 𝓤) (A : Atoms 𝓤) (W : Given
         assigns ! (agg ! (and-then ! (local ! 10 refl) (and-then ! (part ! 34 1 refl refl refl) (no-more !)))) (from ! (stop !)) (init ! 8 refl (tt, (tt, (record { fits = roombyte .0 }, tt)))) $
         -- and lent
         move ! (0 ∷ 1 ∷ 2 ∷ 3 ∷ 4 ∷ 5 ∷ 24 ∷ 22 ∷ 6 ∷ 7 ∷ []) $
-        puts-traced ! binb oinb ninb inbs boutb ooutb noutb outbs bhist ohist nhist hists l₁₀ size l₁₁ size bbyte obyte nbyte bytes dk pos line non mem run 𝓣 known-traced size-room size-room refl roombyte isdk ispos isline isnon (has-tables (dk .records) size (λ _. req)) (λ ν δ ν′ δ′ ν″ δ″. (and-then ! (local ! 39 refl) (and-then ! (local ! 37 refl) (and-then ! (local ! 35 refl) (and-then ! (local ! 33 refl) (and-then ! (local ! 15 refl) (and-then ! (local ! 11 refl) (and-then ! (local ! 7 refl) (and-then ! (local ! 29 refl) (and-then ! (local ! 27 refl) (and-then ! (local ! 25 refl) (no-more !)))))))))))) (λ r out′ sameb e isr.
+        puts-traced ! binb oinb ninb inbs boutb ooutb noutb outbs bhist ohist nhist hists l₁₀ size l₁₁ size bbyte obyte nbyte bytes dk pos line non mem run 𝓣 known-traced size-room size-room refl roombyte isdk ispos isline isnon (has-tables (dk .counts .records) size (λ _. req)) (λ ν δ ν′ δ′ ν″ δ″. (and-then ! (local ! 39 refl) (and-then ! (local ! 37 refl) (and-then ! (local ! 35 refl) (and-then ! (local ! 33 refl) (and-then ! (local ! 15 refl) (and-then ! (local ! 11 refl) (and-then ! (local ! 7 refl) (and-then ! (local ! 29 refl) (and-then ! (local ! 27 refl) (and-then ! (local ! 25 refl) (no-more !)))))))))))) (λ r out′ sameb e isr.
         move ! (0 ∷ 1 ∷ 2 ∷ 3 ∷ 4 ∷ 5 ∷ 8 ∷ 9 ∷ 10 ∷ 11 ∷ 12 ∷ 13 ∷ 14 ∷ 15 ∷ 16 ∷ 17 ∷ 18 ∷ 19 ∷ 20 ∷ 21 ∷ 22 ∷ 23 ∷ 7 ∷ 24 ∷ 6 ∷ []) $
         -- their rooms are back in their places
         land ! (from ! (stop !)) (init ! 44 refl (LL.lawful St.the-type St′.the-laws 𝓤 H A W .typed r _ isr .0)) $
@@ -163,7 +163,7 @@ module _ {M : Type 1} (𝓤 : URA M) (H : Heap 𝓤) (A : Atoms 𝓤) (W : Given
 module _ {M : Type 1} (𝓤 : URA M) (H : Heap 𝓤) (A : Atoms 𝓤) (W : Given 𝓤 H A) (mem : Memory → SProp 𝓤) (run : Routine → Fun 𝓤) (𝓣 : Tables 𝓤 H) (known-traced : Triple 𝓤 (𝓣 .C #put-traced) (PutTraced 𝓤 H A mem run)) where
   put-short-trace-walks : Walks 𝓤 H A f.ended stayed (WpFn 𝓤 H (𝓣 .C) (𝓣 .Λ) code.function) (f.clauses 𝓤 H A mem run)
   put-short-trace-walks = walked 𝓤 H A f.ended stayed (f.clauses 𝓤 H A mem run) (WpFn 𝓤 H (𝓣 .C) (𝓣 .Λ) code.function) (λ κs. (LL.vals Dk.the-type Dk′.the-laws, (slice-vals, (slice-vals, (slice-vals, (slice-vals, (uint-vals w64, (uint-vals w64, (LL.vals Nn.the-type Nn′.the-laws, tt))))))))) (λ κs. (LL.tells Dk.the-type Dk′.the-laws, (shr-slice-tells (named 0) (κs .0) u64, (shr-slice-tells (named 1) (κs .1 .0) u64, (shr-slice-tells (named 2) (κs .1 .1 .0) u64, (mut-slice-tells (named 3) (κs .1 .1 .1 .0) u8, (uint-tells w64, (uint-tells w64, (LL.tells Nn.the-type Nn′.the-laws, tt)))))))))
-      (λ κs qs bounds a g are. needs 𝓤 (a .0 .records ≤ 32) _
+      (λ κs qs bounds a g are. needs 𝓤 (a .0 .counts .records ≤ 32) _
       (walk 𝓤 H A W mem run (κs .0) (κs .1 .0) (κs .1 .1 .0) (κs .1 .1 .1 .0) (qs .0) (qs .1 .0) (qs .1 .1 .0) (qs .1 .1 .1 .0) (a .0) (a .1 .0 .ptr .0) (a .1 .0 .ptr .1) (a .1 .0 .name) (a .1 .0 .now) (a .1 .1 .0 .ptr .0) (a .1 .1 .0 .ptr .1) (a .1 .1 .0 .name) (a .1 .1 .0 .now) (a .1 .1 .1 .0 .ptr .0) (a .1 .1 .1 .0 .ptr .1) (a .1 .1 .1 .0 .name) (a .1 .1 .1 .0 .now) (a .1 .1 .1 .1 .0 .ptr .0) (a .1 .1 .1 .1 .0 .ptr .1) (a .1 .1 .1 .1 .0 .name) (a .1 .1 .1 .1 .0 .now) (a .1 .1 .1 .1 .1 .0) (a .1 .1 .1 .1 .1 .1 .0) (a .1 .1 .1 .1 .1 .1 .1 .0) 𝓣 known-traced (are .0) (are .1 .0 .0 .1) (are .1 .1 .0 .0 .1) (are .1 .1 .1 .0 .0 .1) (are .1 .1 .1 .1 .0 .0 .1) (are .1 .1 .1 .1 .1 .0 .1) (are .1 .1 .1 .1 .1 .1 .0 .1) (are .1 .1 .1 .1 .1 .1 .1 .0)))
 
   put-short-trace-meets : Meets 𝓤 H A f.signature (WpFn 𝓤 H (𝓣 .C) (𝓣 .Λ) code.function) (f.spec 𝓤 H A mem run)

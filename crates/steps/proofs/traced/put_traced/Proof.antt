@@ -120,7 +120,7 @@ module _ {M : Type 1} (𝓤 : URA M) (H : Heap 𝓤) (A : Atoms 𝓤) (W : Given
       owned ! Steps (Is Steps) ((LL.makes St.the-type St′.the-plain) 𝓤 H A) r _ isr $ done !
 
   module _ (𝓣 : Tables 𝓤 H) (known-trace : Triple 𝓤 (𝓣 .C #trace) (Trace 𝓤 H A mem run)) (known-outcome : Triple 𝓤 (𝓣 .C #put-outcome) (PutOutcome 𝓤 H A mem run)) (known-step : Triple 𝓤 (𝓣 .C #stepped) (SteppedBy 𝓤 H A mem run)) where
-    walk : Is Desks dk (machK dk ∷ []) → Room u64 ninb → Room u64 noutb → Room u64 nhist → Room R nwork → Room R nlot → Room u8 nbyte → pos < 2 ^ 64 → line < 2 ^ 64 → Is Nonces non (machN non ∷ []) → HasTables (dk .records) works lots → ent 𝓤 (onEntry 𝓤 H A f.signature (κinb, (κoutb, (κhist, (κwork, (κlot, (κbyte, tt)))))) (qinb, (qoutb, (qhist, (qwork, (qlot, (qbyte, tt)))))) a at) (WpFn 𝓤 H (𝓣 .C) (𝓣 .Λ) code.function (machK dk ∷ sv binb oinb ninb ∷ sv boutb ooutb noutb ∷ sv bhist ohist nhist ∷ sv bwork owork nwork ∷ sv blot olot nlot ∷ sv bbyte obyte nbyte ∷ vint w64 pos ∷ vint w64 line ∷ machN non ∷ []) Post)
+    walk : Is Desks dk (machK dk ∷ []) → Room u64 ninb → Room u64 noutb → Room u64 nhist → Room R nwork → Room R nlot → Room u8 nbyte → pos < 2 ^ 64 → line < 2 ^ 64 → Is Nonces non (machN non ∷ []) → HasTables (dk .counts .records) works lots → ent 𝓤 (onEntry 𝓤 H A f.signature (κinb, (κoutb, (κhist, (κwork, (κlot, (κbyte, tt)))))) (qinb, (qoutb, (qhist, (qwork, (qlot, (qbyte, tt)))))) a at) (WpFn 𝓤 H (𝓣 .C) (𝓣 .Λ) code.function (machK dk ∷ sv binb oinb ninb ∷ sv boutb ooutb noutb ∷ sv bhist ohist nhist ∷ sv bwork owork nwork ∷ sv blot olot nlot ∷ sv bbyte obyte nbyte ∷ vint w64 pos ∷ vint w64 line ∷ machN non ∷ []) Post)
     walk isdk roominb roomoutb roomhist roomwork roomlot roombyte ispos isline isnon req =
         qed W ((‵ (flft κinb qinb) ⊛ (‵ (flft κoutb qoutb) ⊛ (‵ (flft κhist qhist) ⊛ (‵ (flft κwork qwork) ⊛ (‵ (flft κlot qlot) ⊛ (‵ (flft κbyte qbyte) ⊛ ‵ ftrue)))))) ∷ ‵ (owns (Desks ∷ ShrSlice (named 0) κinb u64 ∷ ShrSlice (named 1) κoutb u64 ∷ ShrSlice (named 2) κhist u64 ∷ MutSlice (named 3) κwork R ∷ MutSlice (named 4) κlot R ∷ MutSlice (named 5) κbyte u8 ∷ usize ∷ u64 ∷ Nonces ∷ []) a at) ∷ []) ∵
         split ! $ move ! (1 ∷ []) $ split ! $ move ! (1 ∷ []) $ split ! $ move ! (1 ∷ []) $ split ! $ move ! (1 ∷ []) $ split ! $ move ! (1 ∷ []) $ split ! $ move ! (7 ∷ []) $ fsplit ! $
@@ -168,7 +168,7 @@ module _ {M : Type 1} (𝓤 : URA M) (H : Heap 𝓤) (A : Atoms 𝓤) (W : Given
 module _ {M : Type 1} (𝓤 : URA M) (H : Heap 𝓤) (A : Atoms 𝓤) (W : Given 𝓤 H A) (mem : Memory → SProp 𝓤) (run : Routine → Fun 𝓤) (𝓣 : Tables 𝓤 H) (known-trace : Triple 𝓤 (𝓣 .C #trace) (Trace 𝓤 H A mem run)) (known-outcome : Triple 𝓤 (𝓣 .C #put-outcome) (PutOutcome 𝓤 H A mem run)) (known-step : Triple 𝓤 (𝓣 .C #stepped) (SteppedBy 𝓤 H A mem run)) where
   put-traced-walks : Walks 𝓤 H A f.ended stayed (WpFn 𝓤 H (𝓣 .C) (𝓣 .Λ) code.function) (f.clauses 𝓤 H A mem run)
   put-traced-walks = walked 𝓤 H A f.ended stayed (f.clauses 𝓤 H A mem run) (WpFn 𝓤 H (𝓣 .C) (𝓣 .Λ) code.function) (λ κs. (LL.vals Dk.the-type Dk′.the-laws, (slice-vals, (slice-vals, (slice-vals, (slice-vals, (slice-vals, (slice-vals, (uint-vals w64, (uint-vals w64, (LL.vals Nn.the-type Nn′.the-laws, tt))))))))))) (λ κs. (LL.tells Dk.the-type Dk′.the-laws, (shr-slice-tells (named 0) (κs .0) u64, (shr-slice-tells (named 1) (κs .1 .0) u64, (shr-slice-tells (named 2) (κs .1 .1 .0) u64, (mut-slice-tells (named 3) (κs .1 .1 .1 .0) T.the-row, (mut-slice-tells (named 4) (κs .1 .1 .1 .1 .0) T.the-row, (mut-slice-tells (named 5) (κs .1 .1 .1 .1 .1 .0) u8, (uint-tells w64, (uint-tells w64, (LL.tells Nn.the-type Nn′.the-laws, tt)))))))))))
-      (λ κs qs bounds a g are. needs 𝓤 (HasTables (a .0 .records) (a .1 .1 .1 .1 .0 .now) (a .1 .1 .1 .1 .1 .0 .now)) _
+      (λ κs qs bounds a g are. needs 𝓤 (HasTables (a .0 .counts .records) (a .1 .1 .1 .1 .0 .now) (a .1 .1 .1 .1 .1 .0 .now)) _
       (walk 𝓤 H A W mem run (κs .0) (κs .1 .0) (κs .1 .1 .0) (κs .1 .1 .1 .0) (κs .1 .1 .1 .1 .0) (κs .1 .1 .1 .1 .1 .0) (qs .0) (qs .1 .0) (qs .1 .1 .0) (qs .1 .1 .1 .0) (qs .1 .1 .1 .1 .0) (qs .1 .1 .1 .1 .1 .0) (a .0) (a .1 .0 .ptr .0) (a .1 .0 .ptr .1) (a .1 .0 .name) (a .1 .0 .now) (a .1 .1 .0 .ptr .0) (a .1 .1 .0 .ptr .1) (a .1 .1 .0 .name) (a .1 .1 .0 .now) (a .1 .1 .1 .0 .ptr .0) (a .1 .1 .1 .0 .ptr .1) (a .1 .1 .1 .0 .name) (a .1 .1 .1 .0 .now) (a .1 .1 .1 .1 .0 .ptr .0) (a .1 .1 .1 .1 .0 .ptr .1) (a .1 .1 .1 .1 .0 .name) (a .1 .1 .1 .1 .0 .now) (a .1 .1 .1 .1 .1 .0 .ptr .0) (a .1 .1 .1 .1 .1 .0 .ptr .1) (a .1 .1 .1 .1 .1 .0 .name) (a .1 .1 .1 .1 .1 .0 .now) (a .1 .1 .1 .1 .1 .1 .0 .ptr .0) (a .1 .1 .1 .1 .1 .1 .0 .ptr .1) (a .1 .1 .1 .1 .1 .1 .0 .name) (a .1 .1 .1 .1 .1 .1 .0 .now) (a .1 .1 .1 .1 .1 .1 .1 .0) (a .1 .1 .1 .1 .1 .1 .1 .1 .0) (a .1 .1 .1 .1 .1 .1 .1 .1 .1 .0) 𝓣 known-trace known-outcome known-step (are .0) (are .1 .0 .0 .1) (are .1 .1 .0 .0 .1) (are .1 .1 .1 .0 .0 .1) (are .1 .1 .1 .1 .0 .0 .1) (are .1 .1 .1 .1 .1 .0 .0 .1) (are .1 .1 .1 .1 .1 .1 .0 .0 .1) (are .1 .1 .1 .1 .1 .1 .1 .0 .1) (are .1 .1 .1 .1 .1 .1 .1 .1 .0 .1) (are .1 .1 .1 .1 .1 .1 .1 .1 .1 .0)))
 
   put-traced-meets : Meets 𝓤 H A f.signature (WpFn 𝓤 H (𝓣 .C) (𝓣 .Λ) code.function) (f.spec 𝓤 H A mem run)
