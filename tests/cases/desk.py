@@ -25,13 +25,18 @@ DESK, INBOX, OUTBOX, HISTORY, SIZE = 0, 1, 2, 3, 4
 # 136, settled from 144, then the counters and the counts
 HOLDER, LIFETIME, SETTLED, LAST, NEXT, UNCLAIMED, PAYMENTS, INFLIGHT, RECORDS = (
     128, 136, 144, 152, 153, 154, 155, 156, 157)
-FULL = {INBOX: 260, OUTBOX: 132, HISTORY: 5125}
-EXACT = {INBOX: 256, OUTBOX: 128, HISTORY: 5120}
+ROWS = {INBOX: 64, OUTBOX: 32, HISTORY: 1024}
+WIDTH = {INBOX: 4, OUTBOX: 4, HISTORY: 5}
+EXACT = {t: ROWS[t] * WIDTH[t] for t in ROWS}
+FULL = {t: EXACT[t] + WIDTH[t] for t in ROWS}  # one row past the end
+
+
+def cell(table, at, k, value):
+    return (table, at * WIDTH[table] + k, value)
 
 
 def row(table, at, *values):
-    width = 5 if table == HISTORY else 4
-    return [(table, at * width + k, v) for k, v in enumerate(values)]
+    return [cell(table, at, k, v) for k, v in enumerate(values)]
 
 
 # member 2 has 300 in asset 3 that no record accounts for; deposits 4 and 6 wait;
@@ -70,13 +75,13 @@ CASES = [
     ("a balance at the ceiling: a Done claim leaves the frame", [(DESK, 10, CEILING)]),
     ("settled at the ceiling: a Done settle leaves the frame", [(DESK, SETTLED + 2, CEILING)]),
     ("next nonce 1,024: a Done withdrawal leaves the frame",
-     [(DESK, NEXT, 1024), (OUTBOX, 3, 1022), (OUTBOX, 7, 1023)]),
-    ("an inbox one row short", [(SIZE, INBOX, 252)]),
-    ("an inbox one row too long", [(SIZE, INBOX, 260)]),
-    ("an outbox one row short", [(SIZE, OUTBOX, 124)]),
-    ("an outbox one row too long", [(SIZE, OUTBOX, 132)]),
-    ("a history one row short", [(SIZE, HISTORY, 5115)]),
-    ("a history one row too long", [(SIZE, HISTORY, 5125)]),
+     [(DESK, NEXT, 1024), cell(OUTBOX, 0, 3, 1022), cell(OUTBOX, 1, 3, 1023)]),
+    ("an inbox one row short", [(SIZE, INBOX, EXACT[INBOX] - WIDTH[INBOX])]),
+    ("an inbox one row too long", [(SIZE, INBOX, FULL[INBOX])]),
+    ("an outbox one row short", [(SIZE, OUTBOX, EXACT[OUTBOX] - WIDTH[OUTBOX])]),
+    ("an outbox one row too long", [(SIZE, OUTBOX, FULL[OUTBOX])]),
+    ("a history one row short", [(SIZE, HISTORY, EXACT[HISTORY] - WIDTH[HISTORY])]),
+    ("a history one row too long", [(SIZE, HISTORY, FULL[HISTORY])]),
     ("no inbox at all", [(SIZE, INBOX, 0)]),
     ("an inbox count above its rows", [(DESK, UNCLAIMED, 65)]),
     ("an inbox count far above its rows", [(DESK, UNCLAIMED, 2 ** 64 - 1)]),
@@ -86,22 +91,22 @@ CASES = [
     ("a balance one above the ceiling", [(DESK, 127, CEILING + 1)]),
     ("a lifetime total one above the ceiling", [(DESK, LIFETIME, CEILING + 1)]),
     ("a settled total one above the ceiling", [(DESK, SETTLED + 7, CEILING + 1)]),
-    ("an unclaimed deposit for member 17", [(INBOX, 7, 17)]),
-    ("an unclaimed deposit of asset 9", [(INBOX, 5, 9)]),
-    ("an unclaimed deposit of nothing", [(INBOX, 6, 0)]),
-    ("a payment of asset 0", [(OUTBOX, 4, 0)]),
-    ("a payment above the ceiling", [(OUTBOX, 5, CEILING + 1)]),
-    ("a payment to payee 65,536", [(OUTBOX, 6, 65536)]),
-    ("inbox numbers equal", [(INBOX, 4, 4)]),
-    ("inbox numbers falling", [(INBOX, 4, 3)]),
-    ("an inbox number 0", [(INBOX, 0, 0)]),
-    ("an inbox number above the last", [(INBOX, 4, 7)]),
-    ("nonces with a hole", [(OUTBOX, 3, 6)]),
+    ("an unclaimed deposit for member 17", [cell(INBOX, 1, 3, 17)]),
+    ("an unclaimed deposit of asset 9", [cell(INBOX, 1, 1, 9)]),
+    ("an unclaimed deposit of nothing", [cell(INBOX, 1, 2, 0)]),
+    ("a payment of asset 0", [cell(OUTBOX, 1, 0, 0)]),
+    ("a payment above the ceiling", [cell(OUTBOX, 1, 1, CEILING + 1)]),
+    ("a payment to payee 65,536", [cell(OUTBOX, 1, 2, 65536)]),
+    ("inbox numbers equal", [cell(INBOX, 1, 0, 4)]),
+    ("inbox numbers falling", [cell(INBOX, 1, 0, 3)]),
+    ("an inbox number 0", [cell(INBOX, 0, 0, 0)]),
+    ("an inbox number above the last", [cell(INBOX, 1, 0, 7)]),
+    ("nonces with a hole", [cell(OUTBOX, 0, 3, 6)]),
     ("nonces that end too early", [(DESK, NEXT, 10)]),
     ("fewer nonces given than payments", [(DESK, NEXT, 1)]),
     ("last deposit number 4,294,967,296", [(DESK, LAST, 2 ** 32)]),
     ("last deposit number 2^64 - 1", [(DESK, LAST, 2 ** 64 - 1)]),
-    ("next nonce 1,025", [(DESK, NEXT, 1025), (OUTBOX, 3, 1023), (OUTBOX, 7, 1024)]),
+    ("next nonce 1,025", [(DESK, NEXT, 1025), cell(OUTBOX, 0, 3, 1023), cell(OUTBOX, 1, 3, 1024)]),
     ("a holder 0", [(DESK, HOLDER, 0)]),
     ("a holder 17", [(DESK, HOLDER + 7, 17)]),
 ]

@@ -19,7 +19,8 @@ from frame import FlatBook, call_on_book, history_fault, trace_on_book  # noqa: 
 
 CRATE = os.path.join(HERE, "..", "..", "crates", "cases_history")
 CEILING = 10 ** 15
-NONE = 5120  # a place past the table: nothing is changed
+WIDTH = 5
+NONE = 1024 * WIDTH  # a place past the table: nothing is changed
 RECORDS = {1: 1001, 2: 1024, 3: 6, 4: 1024, 5: 0}
 
 
@@ -61,7 +62,7 @@ def record(history, i):
 
 
 def at(row, place, value):
-    return (3, row * 5 + place, value, 1024, 1024)
+    return (3, row * WIDTH + place, value, 1024, 1024)
 
 
 # history, changed place, its number, rows of the work table, rows of the pieces table
@@ -70,7 +71,7 @@ CASES = [
     (2, NONE, 0, 1024, 1024), (2, NONE, 0, 1023, 1024), (4, NONE, 0, 1024, 1024), (5, NONE, 0, 0, 0),
     (3, NONE, 0, 1024, 1024), (3, NONE, 0, 6, 6), (3, NONE, 0, 5, 6), (3, NONE, 0, 6, 5), (3, NONE, 0, 0, 0),
     # the last of 1,024 records: the whole history is tested
-    (2, 1023 * 5 + 2, 2001, 1024, 1024), (4, 1023 * 5, 5, 1024, 1024),
+    (2, 1023 * WIDTH + 2, 2001, 1024, 1024), (4, 1023 * WIDTH, 5, 1024, 1024),
     # a bad kind
     at(0, 0, 0), at(4, 0, 5), at(5, 0, 2 ** 64 - 1),
     # a claim: asset, amount, member, deposit number
@@ -96,7 +97,7 @@ def digest(table):
 
 def line(case):
     history, place, value, work_rows, piece_rows = case
-    table = [n for i in range(1024) for n in record(history, i)] if history != 5 else [0] * 5120
+    table = [n for i in range(1024) for n in record(history, i)] if history != 5 else [0] * NONE
     if place < NONE:
         table[place] = value
     flat = FlatBook(history=table, history_count=RECORDS[history])

@@ -17,6 +17,12 @@ use rules::calls::TransferFields;
 use rules::calls::WithdrawalFields;
 use rules::desk::Counts;
 use rules::desk::Desk;
+use rules::limits::DEPOSIT_WIDTH;
+use rules::limits::HISTORY_SIZE;
+use rules::limits::INBOX_SIZE;
+use rules::limits::OUTBOX_SIZE;
+use rules::limits::PAYMENT_WIDTH;
+use rules::limits::RECORD_WIDTH;
 use rules::rows::Deposit;
 use rules::rows::DepositNumber;
 use rules::rows::Nonce;
@@ -37,9 +43,9 @@ fn all_calls(book: u64) {
 
 // One call on one book, which is made anew for it.
 fn one(book: u64, call: usize) {
-    let mut inbox = [0u64; 260];
-    let mut outbox = [0u64; 132];
-    let mut history = [0u64; 5125];
+    let mut inbox = [0u64; INBOX_SIZE + DEPOSIT_WIDTH];
+    let mut outbox = [0u64; OUTBOX_SIZE + PAYMENT_WIDTH];
+    let mut history = [0u64; HISTORY_SIZE + RECORD_WIDTH];
     with_tables(book, call, &mut inbox, &mut outbox, &mut history);
 }
 
@@ -47,9 +53,9 @@ fn with_tables(book: u64, call: usize, inbox: &mut [u64], outbox: &mut [u64], hi
     edit(book, 1, inbox);
     edit(book, 2, outbox);
     edit(book, 3, history);
-    let i = size(book, 1, 256, inbox);
-    let o = size(book, 2, 128, outbox);
-    let h = size(book, 3, 5120, history);
+    let i = size(book, 1, INBOX_SIZE, inbox);
+    let o = size(book, 2, OUTBOX_SIZE, outbox);
+    let h = size(book, 3, HISTORY_SIZE, history);
     let d = desk(book);
     let r = asked(
         d,

@@ -11,6 +11,10 @@ use rules::answers::Answer;
 use rules::answers::Origin;
 use rules::desk::Counts;
 use rules::desk::Desk;
+use rules::limits::HISTORY_SIZE;
+use rules::limits::INBOX_SIZE;
+use rules::limits::OUTBOX_SIZE;
+use rules::limits::RECORD_WIDTH;
 use rules::rows::DepositNumber;
 use rules::rows::Lot;
 use rules::rows::Nonce;
@@ -35,7 +39,7 @@ fn one(k: usize)
     requires { ⌜ k < 100 ⌝ }
 {
     let kind = number(k, 0);
-    let mut history = [0u64; 5120];
+    let mut history = [0u64; HISTORY_SIZE];
     fill(kind, &mut history);
     change(number(k, 1) as usize, number(k, 2), &mut history);
     io::print_decimal(STDOUT_FILENO, k as u64);
@@ -94,7 +98,7 @@ fn fill_one(kind: u64, history: &mut [u64], i: u64)
     requires { ⌜ i < 1024 ⌝ }
 {
     let row = record(kind, i);
-    tables::put_row(history, i as usize * 5, &row);
+    tables::put_row(history, i as usize * RECORD_WIDTH, &row);
 }
 
 fn record(kind: u64, i: u64) -> [u64; 5]
@@ -184,8 +188,8 @@ fn provenances(d: Desk, history: &[u64]) {
 }
 
 fn provenance(d: Desk, history: &[u64], member: u64, asset: u64) {
-    let inbox = [0u64; 256];
-    let outbox = [0u64; 128];
+    let inbox = [0u64; INBOX_SIZE];
+    let outbox = [0u64; OUTBOX_SIZE];
     let o = records::origin::provenance(d, &inbox, &outbox, history, member, asset);
     match o {
         Origin::Amount(n) => {
@@ -208,8 +212,8 @@ fn traces(d: Desk, history: &[u64], work_rows: u64, piece_rows: u64) {
 }
 
 fn trace(d: Desk, history: &[u64], work_rows: u64, piece_rows: u64, n: u64) {
-    let inbox = [0u64; 256];
-    let outbox = [0u64; 128];
+    let inbox = [0u64; INBOX_SIZE];
+    let outbox = [0u64; OUTBOX_SIZE];
     let w = (work_rows % 1025) as usize;
     let p = (piece_rows % 1025) as usize;
     let nonce = Nonce(n);

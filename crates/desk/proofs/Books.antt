@@ -1,33 +1,33 @@
 -- The two ends of every call: what a refusal leaves, and what is laid where nothing is refused. What a book in frame gives of its tables.
-use Prim.Native.Nat.{ℕ, suc, _+_, _-_, _*_, _≤_, _<_}
+use Prim.Native.Nat.{ℕ, _+_, _-_, _*_, _≤_, _<_}
 use mathlib.Core.Path.{_≡_, refl, sym, ap, _∙_}
 use mathlib.Core.Logic.{_≢_}
 use mathlib.Core.Bool.{Bool, true, false, not, _&&_, cond}
 use mathlib.Core.List.{List, [], _∷_, _++_}
 use native.Mathlib.Omega.{arith}
-use lib.ListN.{length, getD, set}
-use borrow.Author.Tests.{leb-true, le-leb}
+use lib.ListN.{getD, set}
+use borrow.Author.Tests.{leb-true}
 use Rattle.rules.specs.declared.rows.Record.{Record}
 use Rattle.rules.specs.declared.desk.Desk.{Desk}
 use Rattle.rules.specs.declared.calls.Call.{Call}
 use Rattle.rules.specs.declared.answers.Answer.{Answer}
 use Rattle.rules.specs.declared.answers.Refusal.{Refusal}
-use Rattle.rules.specs.Limits.{ceiling, within, isMember, isAsset}
+use Rattle.rules.specs.Limits.{ceiling, historyRows, within, isMember, isAsset}
 use Rattle.rules.specs.Lists.{all}
-use Rattle.rules.specs.Tables.{Edit, lay, edited, editedTable, recordShape}
+use Rattle.rules.specs.Tables.{lay, recordShape}
 use Rattle.rules.specs.State.{Book, historyOf, view}
 use Rattle.rules.specs.Replies.{numberOf, told, plain, smallest}
 use Rattle.rules.specs.Refusals.{table}
 use Rattle.rules.specs.Effects.{cell, balance}
 use Rattle.rules.specs.Frame.{upToCeiling, inFrame}
 use Rattle.rules.specs.Answer.{frameTest, badBook, done, answer, replyNumber, doneAnswer, piecesOf, bookOf, outcomeOf}
-use Rattle.rules.proofs.Laying.{RoomFor, lay-edited}
 use Rattle.rules.proofs.Shapes.{recordSound}
 use Rattle.rules.proofs.Books.{Framed}
 use Rattle.rules.proofs.Tests.{both-of, true-within, all-at}
 use Rattle.rules.specs.Facts.{Within, Accepted}
 use Rattle.rules.proofs.Accepts.{accepted-number, by-number, not-done, framed-number, unframed-number}
 use Rattle.tables.specs.Rows.{putAt}
+use Rattle.tables.proofs.Laid.{row-added}
 use Rattle.desk.specs.Parts.{isDone, ofEight}
 use Rattle.desk.specs.Kept.{eightSet, balanceSet}
 use Rattle.desk.proofs.Chains.{done-number, refused-number}
@@ -68,13 +68,9 @@ unfolding answer
 lays b c y a d i o h p q l = rw (accepted-number b c y, p, q, ← l)
 
 -- ---- what is laid back into the history: one row more
-pub record-added : (b : Book) → Framed b → (r : Record) → b .desk .counts .records < 1024
-    → lay recordShape (historyOf b ++ (r ∷ [])) (b .desk .counts .records) (b .history) ≡ putAt (b .desk .counts .records * 5) (recordShape .flat r) (b .history)
-unfolding edited editedTable RoomFor putAt
-record-added b f r h =
-    let e : suc (b .desk .counts .records) * 5 ≡ b .desk .counts .records * 5 + 5 = omega arith in
-    rw (le-leb (b .desk .counts .records * 5 + 5) (length (b .history)) (omega arith))
-    (lay-edited recordShape recordSound (Edit.add r) (b .desk .counts .records) (b .history) (omega arith))
+pub record-added : (b : Book) → Framed b → (r : Record) → b .desk .counts .records < historyRows
+    → lay recordShape (historyOf b ++ (r ∷ [])) (b .desk .counts .records) (b .history) ≡ putAt (b .desk .counts .records * recordShape .width) (recordShape .flat r) (b .history)
+record-added b f r h = row-added recordShape recordSound (b .desk .counts .records) (b .history) r (omega arith)
 
 -- done, for a call whose answer is a bare Done: the answer that was found is that
 pub lays-plain : (b : Book) (c : Call) → Accepted b c → (a : Answer) → told a ≡ plain (replyNumber b c) → told (doneAnswer (view b) c) ≡ plain 0 → piecesOf (view b) c ≡ []

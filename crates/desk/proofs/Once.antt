@@ -3,6 +3,10 @@ use Rattle.rules.specs.Coincide.{Coincide}
 use Rattle.rules.proofs.Coincide.{value, first}
 use Rattle.desk.proofs.answers.refuse as refuse
 use Rattle.desk.proofs.answers.is_done as is-done
+use Rattle.desk.proofs.entries.claim_record as claim-record
+use Rattle.desk.proofs.entries.transfer_record as transfer-record
+use Rattle.desk.proofs.entries.withdrawal_record as withdrawal-record
+use Rattle.desk.proofs.entries.grant_record as grant-record
 use Rattle.desk.proofs.fields.is_within as is-within
 use Rattle.desk.proofs.fields.is_member as is-member
 use Rattle.desk.proofs.fields.is_asset as is-asset
@@ -19,6 +23,18 @@ refuse-once w x g = value w
 
 pub is-done-once : Coincide is-done.ended (λ M 𝓤. is-done.clauses 𝓤)
 is-done-once w x g = value w
+
+pub claim-record-once : Coincide claim-record.ended (λ M 𝓤. claim-record.clauses 𝓤)
+claim-record-once w x g = value w
+
+pub transfer-record-once : Coincide transfer-record.ended (λ M 𝓤. transfer-record.clauses 𝓤)
+transfer-record-once w x g = value w
+
+pub withdrawal-record-once : Coincide withdrawal-record.ended (λ M 𝓤. withdrawal-record.clauses 𝓤)
+withdrawal-record-once w x g = value w
+
+pub grant-record-once : Coincide grant-record.ended (λ M 𝓤. grant-record.clauses 𝓤)
+grant-record-once w x g = value w
 
 pub is-within-once : Coincide is-within.ended (λ M 𝓤. is-within.clauses 𝓤)
 is-within-once w x g = value w

@@ -8,7 +8,7 @@ use lib.ListN.{length, getD, take-append-drop}
 use borrow.Author.Tests.{eq-eqb, ne-eqb, le-leb, lt-leb}
 use Rattle.rules.specs.declared.rows.Deposit.{Deposit}
 use Rattle.rules.specs.declared.rows.Payment.{Payment}
-use Rattle.rules.specs.Limits.{isMember, isAsset, isAmount, isPayee}
+use Rattle.rules.specs.Limits.{inboxRows, outboxRows, isMember, isAsset, isAmount, isPayee}
 use Rattle.rules.specs.Lists.{all, ands}
 use Rattle.rules.specs.Tables.{rowsOf, depositShape, paymentShape}
 use Rattle.rules.specs.State.{Book, view, outboxOf}
@@ -40,31 +40,31 @@ module _ (t : List ℕ) (n last : ℕ) where
   abbrev pub InboxFrom : ℕ → ℕ → Type 0
   InboxFrom before i = inboxFrame t n last ≡ passes (depositTest last) depositNext before (rest depositShape n i t)
 
-  pub inbox-size : (length t ≡ 256 → ⊥) → false ≡ inboxFrame t n last
+  pub inbox-size : (length t ≡ inboxRows * depositShape .width → ⊥) → false ≡ inboxFrame t n last
   unfolding inboxFrame
   inbox-size h = rw (ne-eqb _ _ h)
 
-  pub inbox-count : 64 < n → length t ≡ 256 → false ≡ inboxFrame t n last
+  pub inbox-count : inboxRows < n → length t ≡ inboxRows * depositShape .width → false ≡ inboxFrame t n last
   unfolding inboxFrame
   inbox-count h e = rw (eq-eqb _ _ e, lt-leb _ _ h)
 
-  pub inbox-none : length t ≡ 256 → n ≤ 64 → InboxFrom 0 0
+  pub inbox-none : length t ≡ inboxRows * depositShape .width → n ≤ inboxRows → InboxFrom 0 0
   unfolding inboxFrame
   inbox-none e h = rw (eq-eqb _ _ e, le-leb _ _ h, rest-all depositShape n t) (deposits-pass last 0 (rowsOf depositShape n t))
 
   -- the test of row i, on the table's numbers
   pub inbox-row : (before i : ℕ)
       → depositTest last before (rowAt depositShape i t)
-      ≡ (isMember (getD t (i * 4 + 3) 0) && (isAsset (getD t (i * 4 + 1) 0) && isAmount (getD t (i * 4 + 2) 0))) && (ltb before (getD t (i * 4) 0) && leb (getD t (i * 4) 0) last)
-  inbox-row before i = rw (cell0 4 i t (lit< tt), cell 4 i 1 t (lit< tt), cell 4 i 2 t (lit< tt), cell 4 i 3 t (lit< tt))
+      ≡ (isMember (getD t (i * depositShape .width + 3) 0) && (isAsset (getD t (i * depositShape .width + 1) 0) && isAmount (getD t (i * depositShape .width + 2) 0))) && (ltb before (getD t (i * depositShape .width) 0) && leb (getD t (i * depositShape .width) 0) last)
+  inbox-row before i = rw (cell0 (depositShape .width) i t (lit< tt), cell (depositShape .width) i 1 t (lit< tt), cell (depositShape .width) i 2 t (lit< tt), cell (depositShape .width) i 3 t (lit< tt))
 
   pub inbox-fails : (before i : ℕ) → i < n → InboxFrom before i → depositTest last before (rowAt depositShape i t) ≡ false → false ≡ inboxFrame t n last
   inbox-fails before i h f e = sym (f ∙ passes-fails depositShape (depositTest last) depositNext n before i t h e)
 
-  pub inbox-goes : (before i : ℕ) → i < n → InboxFrom before i → depositTest last before (rowAt depositShape i t) ≡ true → InboxFrom (getD t (i * 4) 0) (i + 1)
+  pub inbox-goes : (before i : ℕ) → i < n → InboxFrom before i → depositTest last before (rowAt depositShape i t) ≡ true → InboxFrom (getD t (i * depositShape .width) 0) (i + 1)
   inbox-goes before i h f e =
       f ∙ passes-goes depositShape (depositTest last) depositNext n before i t h e
-      ∙ ap (λ (k : ℕ). passes (depositTest last) depositNext k (rest depositShape n (i + 1) t)) (cell0 4 i t (lit< tt))
+      ∙ ap (λ (k : ℕ). passes (depositTest last) depositNext k (rest depositShape n (i + 1) t)) (cell0 (depositShape .width) i t (lit< tt))
 
   pub inbox-end : (before i : ℕ) → n ≤ i → InboxFrom before i → true ≡ inboxFrame t n last
   inbox-end before i h f = sym (f ∙ passes-end depositShape (depositTest last) depositNext n before i t h)
@@ -87,27 +87,27 @@ module _ (t : List ℕ) (n next : ℕ) where
   abbrev pub OutboxFrom : ℕ → ℕ → Type 0
   OutboxFrom due i = outboxFrame t n next ≡ passes paymentTest paymentNext due (rest paymentShape n i t)
 
-  pub outbox-size : (length t ≡ 128 → ⊥) → false ≡ outboxFrame t n next
+  pub outbox-size : (length t ≡ outboxRows * paymentShape .width → ⊥) → false ≡ outboxFrame t n next
   unfolding outboxFrame
   outbox-size h = rw (ne-eqb _ _ h)
 
-  pub outbox-count : 32 < n → length t ≡ 128 → false ≡ outboxFrame t n next
+  pub outbox-count : outboxRows < n → length t ≡ outboxRows * paymentShape .width → false ≡ outboxFrame t n next
   unfolding outboxFrame
   outbox-count h e = rw (eq-eqb _ _ e, lt-leb _ _ h)
 
-  pub outbox-before : next < n → length t ≡ 128 → n ≤ 32 → false ≡ outboxFrame t n next
+  pub outbox-before : next < n → length t ≡ outboxRows * paymentShape .width → n ≤ outboxRows → false ≡ outboxFrame t n next
   unfolding outboxFrame noncesRise
   outbox-before h e f = rw (eq-eqb _ _ e, le-leb _ _ f, length-rows paymentShape n t, lt-leb _ _ h, and-false)
 
-  pub outbox-none : length t ≡ 128 → n ≤ 32 → n ≤ next → OutboxFrom (next - n) 0
+  pub outbox-none : length t ≡ outboxRows * paymentShape .width → n ≤ outboxRows → n ≤ next → OutboxFrom (next - n) 0
   unfolding outboxFrame noncesRise
   outbox-none e h f =
       rw (eq-eqb _ _ e, le-leb _ _ h, length-rows paymentShape n t, le-leb _ _ f, rest-all paymentShape n t) (payments-pass (next - n) (rowsOf paymentShape n t))
 
   pub outbox-row : (due i : ℕ)
       → paymentTest due (rowAt paymentShape i t)
-      ≡ (isAsset (getD t (i * 4) 0) && (isAmount (getD t (i * 4 + 1) 0) && isPayee (getD t (i * 4 + 2) 0))) && eqb (getD t (i * 4 + 3) 0) due
-  outbox-row due i = rw (cell0 4 i t (lit< tt), cell 4 i 1 t (lit< tt), cell 4 i 2 t (lit< tt), cell 4 i 3 t (lit< tt))
+      ≡ (isAsset (getD t (i * paymentShape .width) 0) && (isAmount (getD t (i * paymentShape .width + 1) 0) && isPayee (getD t (i * paymentShape .width + 2) 0))) && eqb (getD t (i * paymentShape .width + 3) 0) due
+  outbox-row due i = rw (cell0 (paymentShape .width) i t (lit< tt), cell (paymentShape .width) i 1 t (lit< tt), cell (paymentShape .width) i 2 t (lit< tt), cell (paymentShape .width) i 3 t (lit< tt))
 
   pub outbox-fails : (due i : ℕ) → i < n → OutboxFrom due i → paymentTest due (rowAt paymentShape i t) ≡ false → false ≡ outboxFrame t n next
   outbox-fails due i h f e = sym (f ∙ passes-fails paymentShape paymentTest paymentNext n due i t h e)

@@ -1,12 +1,12 @@
 -- The frame test in the parts that the code tests together: the inbox with its count, the outbox with its count, and the desk's own numbers.
-use Prim.Native.Nat.{ℕ}
+use Prim.Native.Nat.{ℕ, _*_}
 use mathlib.Core.Bool.{Bool, _&&_}
 use mathlib.Core.List.{List}
 use lib.Dec.{leb, eqb}
 use Rattle.rules.specs.declared.desk.Counts.{Counts}
 use Rattle.rules.specs.Limits.{inboxRows, outboxRows, historyRows, highestNumber, highestNext, isMember}
 use Rattle.rules.specs.Lists.{all}
-use Rattle.rules.specs.Tables.{rowsOf, depositShape, paymentShape}
+use Rattle.rules.specs.Tables.{rowsOf, depositShape, paymentShape, recordShape}
 use Rattle.rules.specs.Frame.{hasRows, upToCeiling, depositInLimits, paymentInLimits, numbersRise, noncesRise}
 
 unfoldable pub inboxFrame : List ℕ → ℕ → ℕ → Bool
@@ -27,5 +27,5 @@ listsFrame balances holders lifetime settled =
 -- the counts and the counters, with how many numbers the history's table has
 unfoldable pub countsFrame : Counts → ℕ → Bool
 countsFrame c size =
-    eqb size 5120
+    eqb size (historyRows * recordShape .width)
     && (leb (c .records) historyRows && (leb (c .inflight) (c .payments) && (leb (c .last .0) highestNumber && leb (c .next .0) highestNext)))

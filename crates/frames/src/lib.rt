@@ -4,6 +4,7 @@ use rules::desk::Counts;
 use rules::desk::Desk;
 use rules::limits::ASSETS;
 use rules::limits::CEILING;
+use rules::limits::DEPOSIT_WIDTH;
 use rules::limits::HIGHEST_NEXT;
 use rules::limits::HIGHEST_NUMBER;
 use rules::limits::HIGHEST_PAYEE;
@@ -14,6 +15,7 @@ use rules::limits::INBOX_SIZE;
 use rules::limits::MEMBERS;
 use rules::limits::OUTBOX_ROWS;
 use rules::limits::OUTBOX_SIZE;
+use rules::limits::PAYMENT_WIDTH;
 ghost use mathlib.Core.Path.{_≡_};
 ghost use mathlib.Core.Bool.{_&&_};
 ghost use lib.Dec.{leb, ltb, eqb};
@@ -132,7 +134,7 @@ fn inbox_in_frame(t: &[u64], n: usize, last: u64) -> bool
     let mut i: usize = 0;
     let mut before: u64 = 0;
     while i < n {
-        let at = i * 4;
+        let at = i * DEPOSIT_WIDTH;
         let number = t[at];
         if !deposit_in_frame(before, last, number, t[at + 1], t[at + 2], t[at + 3]) {
             return false;
@@ -186,7 +188,7 @@ fn outbox_in_frame(t: &[u64], n: usize, next: u64) -> bool
     let mut i: usize = 0;
     let mut due = next - used;
     while i < n {
-        let at = i * 4;
+        let at = i * PAYMENT_WIDTH;
         if !payment_in_frame(due, t[at], t[at + 1], t[at + 2], t[at + 3]) {
             return false;
         }

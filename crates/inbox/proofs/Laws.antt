@@ -11,23 +11,23 @@ use lib.Seq.{length-take-le}
 use borrow.Author.Tests.{le-leb, lt-ltb, le-ltb, ltb-true, eq-eqb, ne-eqb, eqb-true, eqb-false}
 use Rattle.rules.specs.declared.rows.Deposit.{Deposit}
 use Rattle.rules.specs.declared.rows.DepositNumber.{DepositNumber}
-use Rattle.rules.specs.declared.rows.Record.{Record}
 use Rattle.rules.specs.declared.calls.Call.{Call}
 use Rattle.rules.specs.declared.calls.ClaimFields.{ClaimFields}
 use Rattle.rules.specs.declared.answers.Refusal.{Refusal}
-use Rattle.rules.specs.Limits.{ceiling, highestNumber, isMember, isAsset, isAmount}
+use Rattle.rules.specs.Limits.{ceiling, inboxRows, historyRows, highestNumber, isMember, isAsset, isAmount}
 use Rattle.rules.specs.Lists.{all, any, same, indexOf}
-use Rattle.rules.specs.Tables.{Edit, rowsOf, lay, edited, editedTable, depositShape, recordShape}
+use Rattle.rules.specs.Tables.{Edit, rowsOf, lay, edited, depositShape, recordShape}
 use Rattle.rules.specs.State.{State, Book, view, laid, deskOf, inboxOf, historyOf}
 use Rattle.rules.specs.Replies.{numberOf, told, plain, smallest}
 use Rattle.rules.specs.Refusals.{table, refusals, full, fulls}
-use Rattle.rules.specs.Effects.{total, matches, deposited, effect, balancesAfter, holdersAfter, inboxEdit, outsideAfter, recordsOf}
+use Rattle.rules.specs.Effects.{total, matches, deposited, effect, balancesAfter, holdersAfter, inboxEdit, outsideAfter, claimRecord, recordsOf}
 use Rattle.rules.specs.Answer.{done, bookOf}
-use Rattle.rules.proofs.Laying.{RoomFor, length-rows, lay-edited}
+use Rattle.rules.proofs.Laying.{length-rows}
 use Rattle.rules.proofs.Shapes.{depositSound}
 use Rattle.rules.specs.Facts.{Accepted, DepositFit, ClaimFit}
 use Rattle.rules.proofs.Accepts.{fit, roomy, accepted-frame}
 use Rattle.tables.specs.Rows.{bare, putAt, takenOut, placeOf}
+use Rattle.tables.proofs.Laid.{row-added, row-taken}
 use Rattle.desk.specs.Parts.{ofEight}
 use Rattle.desk.proofs.Chains.{Entry, chain, notBelow, chain-told}
 use Rattle.rules.proofs.Books.{none-found, index-found, Framed, framed, outbox-kept, history-kept, inbox-count, outbox-count, flight-count, history-count}
@@ -68,7 +68,7 @@ depositEntries lifetime last unclaimed x =
     ∷ (Refusal.Old, leb (x .number .0) (last .0))
     ∷ (Refusal.Gap, isGap (last .0) (x .number .0))
     ∷ (Refusal.Ceiling, passesCeiling (ofEight lifetime (x .asset)) (x .amount))
-    ∷ (Refusal.InboxFull, leb 64 unclaimed)
+    ∷ (Refusal.InboxFull, leb inboxRows unclaimed)
     ∷ []
 
 pub deposit-told : (lifetime : List ℕ) (last : DepositNumber) (unclaimed : ℕ) (x : Deposit) (s : State)
@@ -86,15 +86,12 @@ can-deposit b x a =
     record { asset = q .asset; amount = q .amount .high; lifetime = f .lifetime; unclaimed = omega (arith, roomy b (Call.Deposit x) a .room) }
 
 -- one deposit more at the end of the inbox
-deposit-added : (b : Book) (x : Deposit) → Framed b → b .desk .counts .unclaimed < 64
-    → lay depositShape (inboxOf b ++ (x ∷ [])) (b .desk .counts .unclaimed) (b .inbox) ≡ putAt (b .desk .counts .unclaimed * 4) (depositShape .flat x) (b .inbox)
-unfolding edited editedTable RoomFor putAt
-deposit-added b x f h =
-    rw (le-leb (b .desk .counts .unclaimed * 4 + 4) (length (b .inbox)) (omega arith))
-    (lay-edited depositShape depositSound (Edit.add x) (b .desk .counts .unclaimed) (b .inbox) (omega arith))
+deposit-added : (b : Book) (x : Deposit) → Framed b → b .desk .counts .unclaimed < inboxRows
+    → lay depositShape (inboxOf b ++ (x ∷ [])) (b .desk .counts .unclaimed) (b .inbox) ≡ putAt (b .desk .counts .unclaimed * depositShape .width) (depositShape .flat x) (b .inbox)
+deposit-added b x f h = row-added depositShape depositSound (b .desk .counts .unclaimed) (b .inbox) x (omega arith)
 
-pub deposit-laid : (b : Book) (x : Deposit) → Framed b → b .desk .counts .unclaimed < 64
-    → bookOf (depositedDesk (b .desk) x) (putAt (b .desk .counts .unclaimed * 4) (x .number .0 ∷ x .asset ∷ x .amount ∷ x .member ∷ []) (b .inbox)) (b .outbox) (b .history)
+pub deposit-laid : (b : Book) (x : Deposit) → Framed b → b .desk .counts .unclaimed < inboxRows
+    → bookOf (depositedDesk (b .desk) x) (putAt (b .desk .counts .unclaimed * depositShape .width) (depositShape .flat x) (b .inbox)) (b .outbox) (b .history)
     ≡ done (Call.Deposit x) b
 unfolding laid deskOf effect balancesAfter holdersAfter inboxEdit edited outsideAfter deposited recordsOf depositedDesk view
 deposit-laid b x f h =
@@ -108,28 +105,33 @@ eqb-comm a b = go (eqb a b) refl
     go true e = sym (eq-eqb b a (sym (eqb-true a b e)))
     go false e = sym (ne-eqb b a (λ q. eqb-false a b e (sym q)))
 
--- a row of four numbers is the claim's row where it is a deposit that matches
-row-matches : (c : ClaimFields) (r : List ℕ) → length r ≡ 4 → same (rowOf c) r ≡ matches c (depositShape .row r)
-unfolding same matches
-row-matches c [] e = absurd (omega arith)
-row-matches c (a ∷ []) e = absurd (omega arith)
-row-matches c (a ∷ b ∷ []) e = absurd (omega arith)
-row-matches c (a ∷ b ∷ x ∷ []) e = absurd (omega arith)
-row-matches c (a ∷ b ∷ x ∷ m ∷ []) e =
-    rw (eqb-comm (c .number .0) a, eqb-comm (c .asset) b, eqb-comm (c .amount) x, eqb-comm (c .member) m, and-true)
-row-matches c (a ∷ b ∷ x ∷ m ∷ y ∷ r) e = absurd (omega arith)
+same-comm : (xs ys : List ℕ) → same xs ys ≡ same ys xs
+unfolding same
+same-comm [] [] = refl
+same-comm [] (y ∷ ys) = refl
+same-comm (x ∷ xs) [] = refl
+same-comm (x ∷ xs) (y ∷ ys) = rw (eqb-comm x y, same-comm xs ys)
 
-place-rows : (c : ClaimFields) (n : ℕ) (t : List ℕ) → n * 4 ≤ length t → indexOf (same (rowOf c)) (rowsOf (bare 4) n t) ≡ indexOf (matches c) (rowsOf depositShape n t)
+-- a deposit's numbers are the claim's row where it matches
+flat-matches : (c : ClaimFields) (d : Deposit) → same (depositShape .flat d) (rowOf c) ≡ matches c d
+unfolding same matches
+flat-matches c d = rw and-true
+
+row-matches : (c : ClaimFields) (r : List ℕ) → length r ≡ depositShape .width → same (rowOf c) r ≡ matches c (depositShape .row r)
+row-matches c r e = same-comm (rowOf c) r ∙ ap (λ (x : List ℕ). same x (rowOf c)) (sym (depositSound .forth r e)) ∙ flat-matches c (depositShape .row r)
+
+place-rows : (c : ClaimFields) (n : ℕ) (t : List ℕ) → n * depositShape .width ≤ length t
+    → indexOf (same (rowOf c)) (rowsOf (bare (depositShape .width)) n t) ≡ indexOf (matches c) (rowsOf depositShape n t)
 unfolding rowsOf indexOf
 place-rows c zero t h = refl
 place-rows c (suc n) t h =
-    let e : suc n * 4 ≡ n * 4 + 4 = omega arith in
-    let l : length (take 4 t) ≡ 4 = length-take-le 4 t (omega arith) in
-    rw (row-matches c (take 4 t) l, place-rows c n (drop 4 t) (rw length-drop (omega arith)))
+    let w : ℕ = depositShape .width in
+    let l : length (take w t) ≡ w = length-take-le w t (omega arith) in
+    rw (row-matches c (take w t) l, place-rows c n (drop w t) (rw length-drop (omega arith)))
 
 pub place-is : (b : Book) (c : ClaimFields) → Framed b → placeOf (rowOf c) (b .desk .counts .unclaimed) (b .inbox) ≡ indexOf (matches c) (inboxOf b)
 unfolding placeOf
-place-is b c f = rw (le-leb (b .desk .counts .unclaimed * 4) (length (b .inbox)) (omega arith)) (place-rows c (b .desk .counts .unclaimed) (b .inbox) (omega arith))
+place-is b c f = rw (le-leb (b .desk .counts .unclaimed * depositShape .width) (length (b .inbox)) (omega arith)) (place-rows c (b .desk .counts .unclaimed) (b .inbox) (omega arith))
 
 -- ---- claim
 abbrev pub claimEntries : Bool → ℕ → ClaimFields → List Entry
@@ -138,7 +140,7 @@ claimEntries waits records c =
     ∷ (Refusal.BadAsset, not (isAsset (c .asset)))
     ∷ (Refusal.BadAmount, not (isAmount (c .amount)))
     ∷ (Refusal.NoSuchDeposit, not waits)
-    ∷ (Refusal.HistoryFull, leb 1024 records)
+    ∷ (Refusal.HistoryFull, leb historyRows records)
     ∷ []
 
 pub claim-told : (waits : Bool) (records : ℕ) (c : ClaimFields) (s : State) → any (matches c) (s .inbox) ≡ waits → length (s .history) ≡ records
@@ -183,11 +185,8 @@ can-claim b c a =
 
 -- the claimed row leaves: "the rest keeping their order", and the last used row becomes zeros
 claim-taken : (b : Book) (i : ℕ) → Framed b → i < b .desk .counts .unclaimed
-    → lay depositShape (edited (Edit.takeOut i) (inboxOf b)) (b .desk .counts .unclaimed) (b .inbox) ≡ takenOut 4 i (b .desk .counts .unclaimed) (b .inbox)
-unfolding editedTable RoomFor takenOut
-claim-taken b i f h =
-    rw (le-leb (b .desk .counts .unclaimed * 4) (length (b .inbox)) (omega arith), lt-ltb i (b .desk .counts .unclaimed) h)
-    (lay-edited depositShape depositSound (Edit.takeOut i) (b .desk .counts .unclaimed) (b .inbox) (h, omega arith))
+    → lay depositShape (edited (Edit.takeOut i) (inboxOf b)) (b .desk .counts .unclaimed) (b .inbox) ≡ takenOut (depositShape .width) i (b .desk .counts .unclaimed) (b .inbox)
+claim-taken b i f h = row-taken depositShape depositSound (b .desk .counts .unclaimed) (b .inbox) i h (omega arith)
 
 claim-count : (b : Book) (i : ℕ) → i < b .desk .counts .unclaimed → length (edited (Edit.takeOut i) (inboxOf b)) ≡ b .desk .counts .unclaimed - 1
 unfolding edited
@@ -196,19 +195,18 @@ claim-count b i h =
     length-append (take i (inboxOf b)) (drop (suc i) (inboxOf b))
     ∙ rw (length-take-le i (inboxOf b) (omega arith), length-drop (suc i) (inboxOf b), l) (omega arith)
 
-pub claim-laid : (b : Book) (c : ClaimFields) → Framed b → indexOf (matches c) (inboxOf b) < b .desk .counts .unclaimed → b .desk .counts .records < 1024
-    → bookOf (claimedDesk (b .desk) c) (takenOut 4 (indexOf (matches c) (inboxOf b)) (b .desk .counts .unclaimed) (b .inbox)) (b .outbox)
-    (putAt (b .desk .counts .records * 5) (1 ∷ c .asset ∷ c .amount ∷ c .member ∷ c .number .0 ∷ []) (b .history))
+pub claim-laid : (b : Book) (c : ClaimFields) → Framed b → indexOf (matches c) (inboxOf b) < b .desk .counts .unclaimed → b .desk .counts .records < historyRows
+    → bookOf (claimedDesk (b .desk) c) (takenOut (depositShape .width) (indexOf (matches c) (inboxOf b)) (b .desk .counts .unclaimed) (b .inbox)) (b .outbox)
+    (putAt (b .desk .counts .records * recordShape .width) (recordShape .flat (claimRecord c)) (b .history))
     ≡ done (Call.Claim c) b
 unfolding laid deskOf effect balancesAfter holdersAfter inboxEdit outsideAfter recordsOf claimedDesk view
 claim-laid b c f h k =
-    let r : Record = record { kind = 1; asset = c .asset; amount = c .amount; first = c .member; second = c .number .0 } in
     rw (
       claim-taken b (indexOf (matches c) (inboxOf b)) f h,
       outbox-kept b f,
-      record-added b f r k,
+      record-added b f (claimRecord c) k,
       claim-count b (indexOf (matches c) (inboxOf b)) h,
       outbox-count b f,
       flight-count b f,
-      history-count b f (r ∷ []),
+      history-count b f (claimRecord c ∷ []),
     )

@@ -7,11 +7,13 @@ use lib.ListN.{length, replicate, length-replicate}
 use Rattle.rules.specs.declared.rows.Deposit.{Deposit}
 use Rattle.rules.specs.declared.calls.ClaimFields.{ClaimFields}
 use Rattle.rules.specs.Lists.{any}
+use Rattle.rules.specs.Tables.{noDeposit}
 use Rattle.rules.specs.State.{State}
 use Rattle.rules.specs.Effects.{matches}
 use Rattle.rules.specs.Coincide.{Coincide}
 use Rattle.rules.proofs.Told.{told-once, outcome-once}
 use Rattle.rules.proofs.Coincide.{both, value, someState, someOutside, noOutside}
+use Rattle.inbox.specs.After.{depositOf}
 use Rattle.inbox.proofs.deposit as deposit
 use Rattle.inbox.proofs.deposit_done as deposit-done
 use Rattle.inbox.proofs.deposit_reply as deposit-reply
@@ -28,9 +30,8 @@ deposit-done-once = deposit-once
 
 pub deposit-reply-once : Coincide deposit-reply.ended (λ M 𝓤. deposit-reply.clauses 𝓤)
 deposit-reply-once w x g =
-    let none : Deposit = record { number = record { 0 = 0 }; asset = 0; amount = 0; member = 0 } in
-    let s : State = someState [] [] (replicate (x .args .1 .1 .0) none) (someOutside (x .args .0 .now) (x .args .1 .0) [] []) 0 in
-    let n : length (replicate (x .args .1 .1 .0) none) ≡ x .args .1 .1 .0 = length-replicate (x .args .1 .1 .0) none in
+    let s : State = someState [] [] (replicate (x .args .1 .1 .0) noDeposit) (someOutside (x .args .0 .now) (x .args .1 .0) [] []) 0 in
+    let n : length (replicate (x .args .1 .1 .0) noDeposit) ≡ x .args .1 .1 .0 = length-replicate (x .args .1 .1 .0) noDeposit in
     both w (λ p q. (told-once _ _ (p s refl refl n ∙ sym (q s refl refl n)), refl))
 
 pub claim-once : Coincide claim.ended (λ M 𝓤. claim.clauses 𝓤)
@@ -41,7 +42,7 @@ claim-done-once = claim-once
 
 -- an inbox in which the claimed deposit waits, or does not
 waiting : Bool → ClaimFields → List Deposit
-waiting t c = cond t (record { number = c .number; asset = c .asset; amount = c .amount; member = c .member } ∷ []) []
+waiting t c = cond t (depositOf c ∷ []) []
 
 waits : (t : Bool) (c : ClaimFields) → any (matches c) (waiting t c) ≡ t
 unfolding any matches waiting

@@ -2,13 +2,14 @@
 use Prim.Native.Nat.{ℕ, _+_, _-_, _≤_, _<_}
 use mathlib.Core.Path.{_≡_}
 use mathlib.Core.Bool.{Bool, true, not, _||_}
-use mathlib.Core.List.{List, [], _∷_}
+use mathlib.Core.List.{List}
 use lib.Dec.{ltb, eqb}
 use Rattle.rules.specs.declared.rows.Deposit.{Deposit}
 use Rattle.rules.specs.declared.desk.Desk.{Desk}
 use Rattle.rules.specs.declared.calls.ClaimFields.{ClaimFields}
 use Rattle.rules.specs.Limits.{ceiling, highestNumber}
 use Rattle.rules.specs.Lists.{all}
+use Rattle.rules.specs.Tables.{depositShape}
 use Rattle.rules.specs.Frame.{upToCeiling}
 use Rattle.rules.specs.Effects.{raised, credit}
 use Rattle.rules.specs.Facts.{Within}
@@ -27,9 +28,12 @@ claimedDesk d c =
     deskWith (credit (d .balances) (c .member) (c .asset) (c .amount)) (d .holders) (d .lifetime) (d .settled)
     (withRows (d .counts) (d .counts .unclaimed - 1) (d .counts .payments) (d .counts .inflight) (d .counts .records + 1))
 
--- a claim's four numbers as the row that it looks for
+-- the deposit that a claim looks for, and how it lies in the inbox
+abbrev pub depositOf : ClaimFields → Deposit
+depositOf c = record { number = c .number; asset = c .asset; amount = c .amount; member = c .member }
+
 abbrev pub rowOf : ClaimFields → List ℕ
-rowOf c = c .number .0 ∷ c .asset ∷ c .amount ∷ c .member ∷ []
+rowOf c = depositShape .flat (depositOf c)
 
 -- one of the first n rows is that
 abbrev pub isUnclaimed : ClaimFields → ℕ → List ℕ → Bool

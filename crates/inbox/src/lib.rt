@@ -3,6 +3,7 @@
 // is lent, what it answers and what it leaves of the desk and every row.
 use desk::answers::is_done;
 use desk::answers::refuse;
+use desk::entries::claim_record;
 use desk::fields::balance_of;
 use desk::fields::is_amount;
 use desk::fields::is_asset;
@@ -23,7 +24,6 @@ use rules::limits::HISTORY_ROWS;
 use rules::limits::INBOX_ROWS;
 use rules::rows::Deposit;
 use rules::rows::DepositNumber;
-use rules::rows::Record;
 use tables::find_row;
 use tables::rows::put_deposit;
 use tables::rows::put_record;
@@ -38,7 +38,8 @@ ghost use Rattle.rules.specs.Refusals.{table};
 ghost use Rattle.rules.specs.Lists.{any};
 ghost use Rattle.rules.specs.Effects.{matches};
 ghost use Rattle.rules.specs.Answer.{answer, bookOf, outcomeOf};
-ghost use Rattle.inbox.specs.After.{isGap, passesCeiling, isUnclaimed, CanDeposit, CanClaim, depositedDesk, claimedDesk};
+ghost use Rattle.tables.specs.Rows.{placeOf};
+ghost use Rattle.inbox.specs.After.{rowOf, isGap, passesCeiling, isUnclaimed, CanDeposit, CanClaim, depositedDesk, claimedDesk};
 
 // Deposit (number, asset, amount, member): added at the end of the inbox.
 pub fn deposit(d: Desk, inbox: &mut [u64], outbox: &[u64], history: &[u64], x: Deposit) -> Answered
@@ -169,17 +170,9 @@ pub fn claim_done(
     requires { ⌜ Accepted (bookOf d (now inbox) (now outbox) (now history)) (Call.Claim c) ⌝ }
     ensures { λ r. ⌜ outcomeOf r (now (inbox .exit)) (now (outbox .entry)) (now (history .exit)) ≡ answer (bookOf d (now (inbox .entry)) (now (outbox .entry)) (now (history .entry))) (Call.Claim c) ⌝ }
 {
-    let number = c.number;
-    let row = [number.0, c.asset, c.amount, c.member];
-    let place = find_row(inbox, d.counts.unclaimed, &row);
+    let place = place_of(inbox, d.counts.unclaimed, c);
     take_out(inbox, DEPOSIT_WIDTH, place, d.counts.unclaimed);
-    let entry = Record {
-        kind: 1,
-        asset: c.asset,
-        amount: c.amount,
-        first: c.member,
-        second: number.0,
-    };
+    let entry = claim_record(c);
     put_record(history, d.counts.records, entry);
     let desk = claimed(d, c);
     Answered {
@@ -192,9 +185,16 @@ pub fn claim_done(
 pub fn is_unclaimed(inbox: &[u64], n: usize, c: ClaimFields) -> bool
     ensures { λ r. ⌜ r ≡ isUnclaimed c n (now (inbox .entry)) ⌝ }
 {
+    place_of(inbox, n, c) != n
+}
+
+// The place of that deposit among the first n rows, or n.
+fn place_of(inbox: &[u64], n: usize, c: ClaimFields) -> usize
+    ensures { λ r. ⌜ r ≡ placeOf (rowOf c) n (now (inbox .entry)) ⌝ }
+{
     let number = c.number;
     let row = [number.0, c.asset, c.amount, c.member];
-    find_row(inbox, n, &row) != n
+    find_row(inbox, n, &row)
 }
 
 // The claim's table of refusals, the largest number first, for a book in frame. It reads whether such a deposit

@@ -14,13 +14,13 @@ use Rattle.rules.specs.declared.calls.GrantFields.{GrantFields}
 use Rattle.rules.specs.declared.calls.SignFields.{SignFields}
 use Rattle.rules.specs.declared.answers.Refusal.{Refusal}
 use Rattle.rules.specs.declared.answers.Answer.{Answer}
-use Rattle.rules.specs.Limits.{ceiling, isMember, isAsset, isDomain, isAmount}
+use Rattle.rules.specs.Limits.{ceiling, historyRows, isMember, isAsset, isDomain, isAmount}
 use Rattle.rules.specs.Lists.{all}
 use Rattle.rules.specs.Tables.{edited, recordShape}
 use Rattle.rules.specs.State.{State, Book, view, laid, deskOf, historyOf}
 use Rattle.rules.specs.Replies.{numberOf, told, plain, smallest}
 use Rattle.rules.specs.Refusals.{table, refusals, full, fulls}
-use Rattle.rules.specs.Effects.{changesNothing, balance, debit, holder, effect, balancesAfter, holdersAfter, inboxEdit, outsideAfter, recordsOf}
+use Rattle.rules.specs.Effects.{changesNothing, balance, debit, holder, effect, balancesAfter, holdersAfter, inboxEdit, outsideAfter, transferRecord, grantRecord, recordsOf}
 use Rattle.rules.specs.Frame.{upToCeiling}
 use Rattle.rules.specs.Answer.{done, replyNumber, answer, bookOf, outcomeOf, doneAnswer, piecesOf}
 use Rattle.rules.proofs.Laying.{length-rows}
@@ -42,7 +42,7 @@ transferEntries balances records t =
     ∷ (Refusal.BadAmount, not (isAmount (t .amount)))
     ∷ (Refusal.SameMember, eqb (t .from) (t .to))
     ∷ (Refusal.Short, ltb (balance balances (t .from) (t .asset)) (t .amount))
-    ∷ (Refusal.HistoryFull, leb 1024 records)
+    ∷ (Refusal.HistoryFull, leb historyRows records)
     ∷ []
 
 pub transfer-told : (balances : List ℕ) (records : ℕ) (t : TransferFields) (s : State) → s .balances ≡ balances → length (s .history) ≡ records
@@ -67,19 +67,19 @@ can-transfer b t a =
       records = omega (arith, roomy b (Call.Transfer t) a .room);
     }
 
-pub transfer-laid : (b : Book) (t : TransferFields) → Framed b → b .desk .counts .records < 1024
-    → bookOf (transferredDesk (b .desk) t) (b .inbox) (b .outbox) (putAt (b .desk .counts .records * 5) (2 ∷ t .asset ∷ t .amount ∷ t .from ∷ t .to ∷ []) (b .history))
+pub transfer-laid : (b : Book) (t : TransferFields) → Framed b → b .desk .counts .records < historyRows
+    → bookOf (transferredDesk (b .desk) t) (b .inbox) (b .outbox) (putAt (b .desk .counts .records * recordShape .width) (recordShape .flat (transferRecord t)) (b .history))
     ≡ done (Call.Transfer t) b
 unfolding laid deskOf effect balancesAfter holdersAfter inboxEdit edited outsideAfter recordsOf transferredDesk view
 transfer-laid b t f h =
     rw (
       inbox-kept b f,
       outbox-kept b f,
-      record-added b f (record { kind = 2; asset = t .asset; amount = t .amount; first = t .from; second = t .to }) h,
+      record-added b f (transferRecord t) h,
       inbox-count b f,
       outbox-count b f,
       flight-count b f,
-      history-count b f (record { kind = 2; asset = t .asset; amount = t .amount; first = t .from; second = t .to } ∷ []),
+      history-count b f (transferRecord t ∷ []),
     )
 
 -- ---- the steps of a transfer
@@ -98,7 +98,7 @@ grantEntries holders records g =
     ∷ (Refusal.BadDomain, not (isDomain (g .domain)))
     ∷ (Refusal.SameMember, eqb (g .from) (g .to))
     ∷ (Refusal.NotHolder, not (eqb (ofEight holders (g .domain)) (g .from)))
-    ∷ (Refusal.HistoryFull, leb 1024 records)
+    ∷ (Refusal.HistoryFull, leb historyRows records)
     ∷ []
 
 pub grant-told : (holders : List ℕ) (records : ℕ) (g : GrantFields) (s : State) → s .holders ≡ holders → length (s .history) ≡ records
@@ -113,19 +113,19 @@ can-grant b g a =
     let l : length (historyOf b) ≡ b .desk .counts .records = length-rows recordShape (b .desk .counts .records) (b .history) in
     record { domain = q .domain; records = omega (arith, roomy b (Call.Grant g) a .room) }
 
-pub grant-laid : (b : Book) (g : GrantFields) → Framed b → b .desk .counts .records < 1024
-    → bookOf (grantedDesk (b .desk) g) (b .inbox) (b .outbox) (putAt (b .desk .counts .records * 5) (4 ∷ g .domain ∷ 1 ∷ g .from ∷ g .to ∷ []) (b .history))
+pub grant-laid : (b : Book) (g : GrantFields) → Framed b → b .desk .counts .records < historyRows
+    → bookOf (grantedDesk (b .desk) g) (b .inbox) (b .outbox) (putAt (b .desk .counts .records * recordShape .width) (recordShape .flat (grantRecord g)) (b .history))
     ≡ done (Call.Grant g) b
 unfolding laid deskOf effect balancesAfter holdersAfter inboxEdit edited outsideAfter recordsOf grantedDesk view
 grant-laid b g f h =
     rw (
       inbox-kept b f,
       outbox-kept b f,
-      record-added b f (record { kind = 4; asset = g .domain; amount = 1; first = g .from; second = g .to }) h,
+      record-added b f (grantRecord g) h,
       inbox-count b f,
       outbox-count b f,
       flight-count b f,
-      history-count b f (record { kind = 4; asset = g .domain; amount = 1; first = g .from; second = g .to } ∷ []),
+      history-count b f (grantRecord g ∷ []),
     )
 
 -- ---- sign

@@ -4,6 +4,8 @@
 // row.
 use desk::answers::is_done;
 use desk::answers::refuse;
+use desk::entries::grant_record;
+use desk::entries::transfer_record;
 use desk::fields::balance_of;
 use desk::fields::is_amount;
 use desk::fields::is_asset;
@@ -21,7 +23,6 @@ use rules::calls::SignFields;
 use rules::calls::TransferFields;
 use rules::desk::Desk;
 use rules::limits::HISTORY_ROWS;
-use rules::rows::Record;
 use tables::rows::put_record;
 ghost use mathlib.Core.Path.{_≡_};
 ghost use Rattle.rules.specs.declared.calls.Call.{Call};
@@ -66,13 +67,7 @@ pub fn transfer_done(
     requires { ⌜ Accepted (bookOf d (now inbox) (now outbox) (now history)) (Call.Transfer t) ⌝ }
     ensures { λ r. ⌜ outcomeOf r (now (inbox .entry)) (now (outbox .entry)) (now (history .exit)) ≡ answer (bookOf d (now (inbox .entry)) (now (outbox .entry)) (now (history .entry))) (Call.Transfer t) ⌝ }
 {
-    let entry = Record {
-        kind: 2,
-        asset: t.asset,
-        amount: t.amount,
-        first: t.from,
-        second: t.to,
-    };
+    let entry = transfer_record(t);
     put_record(history, d.counts.records, entry);
     let desk = transferred(d, t);
     Answered {
@@ -144,13 +139,7 @@ pub fn grant_done(
     requires { ⌜ Accepted (bookOf d (now inbox) (now outbox) (now history)) (Call.Grant g) ⌝ }
     ensures { λ r. ⌜ outcomeOf r (now (inbox .entry)) (now (outbox .entry)) (now (history .exit)) ≡ answer (bookOf d (now (inbox .entry)) (now (outbox .entry)) (now (history .entry))) (Call.Grant g) ⌝ }
 {
-    let entry = Record {
-        kind: 4,
-        asset: g.domain,
-        amount: 1,
-        first: g.from,
-        second: g.to,
-    };
+    let entry = grant_record(g);
     put_record(history, d.counts.records, entry);
     let desk = granted(d, g);
     Answered {

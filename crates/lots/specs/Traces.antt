@@ -8,6 +8,7 @@ use lib.ListN.{getD, replicate}
 use Rattle.rules.specs.declared.rows.Record.{Record}
 use Rattle.rules.specs.declared.rows.Lot.{Lot}
 use Rattle.rules.specs.Lists.{all, any, those, sumOf, joined}
+use Rattle.rules.specs.Tables.{noRecord}
 use Rattle.rules.specs.History.{isWithdrawal, withdrawals, Standing, standingAfter}
 use Rattle.rules.specs.Lots.{inLine, ofAmount, line}
 
@@ -57,7 +58,7 @@ standingThrough s (r ∷ rs) = standingThrough (standingAfter s r) rs
 -- ---- payments
 -- the record of payment n: of the history's withdrawals, the one with n before it
 abbrev pub nthWithdrawal : ℕ → List Record → Record
-nthWithdrawal n h = getD (those isWithdrawal h) n (record { kind = 0; asset = 0; amount = 0; first = 0; second = 0 })
+nthWithdrawal n h = getD (those isWithdrawal h) n noRecord
 
 -- the records before it, and those after it
 unfoldable pub beforePayment : ℕ → List Record → List Record

@@ -8,28 +8,29 @@ use native.Mathlib.Omega.{arith}
 use lib.Dec.{leb, ltb, eqb}
 use lib.ListN.{length, getD, take, drop, length-append, length-drop, take-append-drop}
 use lib.Seq.{getD-take, getD-drop, drop-append-le, length-take-le}
-use borrow.Author.Tests.{leb-true, le-leb, lt-ltb}
+use borrow.Author.Tests.{leb-true}
 use Rattle.rules.specs.declared.desk.Desk.{Desk}
 use Rattle.rules.specs.declared.rows.Nonce.{Nonce}
 use Rattle.rules.specs.declared.rows.Payment.{Payment}
 use Rattle.rules.specs.declared.calls.Call.{Call}
 use Rattle.rules.specs.declared.calls.WithdrawalFields.{WithdrawalFields}
 use Rattle.rules.specs.declared.answers.Refusal.{Refusal}
-use Rattle.rules.specs.Limits.{ceiling, outboxRows, isMember, isAsset, isAmount, isPayee}
+use Rattle.rules.specs.Limits.{ceiling, outboxRows, historyRows, isMember, isAsset, isAmount, isPayee}
 use Rattle.rules.specs.Lists.{all}
-use Rattle.rules.specs.Tables.{Edit, rowsOf, lay, edited, editedTable, paymentShape, recordShape}
+use Rattle.rules.specs.Tables.{rowsOf, lay, edited, paymentShape, recordShape}
 use Rattle.rules.specs.State.{State, Book, view, laid, deskOf, outboxOf, historyOf, payments}
 use Rattle.rules.specs.Replies.{numberOf, told, plain, smallest}
 use Rattle.rules.specs.Refusals.{table, refusals, full, fulls}
-use Rattle.rules.specs.Effects.{balance, oldest, paymentOf, withdrawn, sent, settledOne, effect, balancesAfter, holdersAfter, inboxEdit, outsideAfter, recordsOf}
+use Rattle.rules.specs.Effects.{balance, oldest, paymentOf, withdrawn, sent, settledOne, effect, balancesAfter, holdersAfter, inboxEdit, outsideAfter, withdrawalRecord, recordsOf}
 use Rattle.rules.specs.Frame.{hasRows, upToCeiling, paymentInLimits, noncesRise, inFrame}
 use Rattle.rules.specs.Answer.{done, bookOf}
-use Rattle.rules.proofs.Laying.{RoomFor, length-rows, take-rows, drop-rows, lay-edited}
+use Rattle.rules.proofs.Laying.{length-rows, take-rows, drop-rows}
 use Rattle.rules.proofs.Shapes.{paymentSound}
 use Rattle.rules.specs.Facts.{Accepted, WithdrawalFit, SendFit, SettleFit}
 use Rattle.rules.proofs.Tests.{both, within-true, true-within, all-at}
 use Rattle.rules.proofs.Accepts.{fit, roomy, accepted-frame}
 use Rattle.tables.specs.Rows.{putAt, takenOut}
+use Rattle.tables.proofs.Laid.{row-added, row-taken}
 use Rattle.desk.specs.Parts.{ofEight}
 use Rattle.frames.specs.Parts.{countsFrame, listsFrame, inboxFrame, outboxFrame}
 use Rattle.frames.proofs.Frames.{frame-parts}
@@ -63,11 +64,11 @@ module _ (b : Book) (f : Framed b) where
   flight-row h = rw (take-rows paymentShape (b .desk .counts .payments) (b .desk .counts .inflight) (b .outbox) (f .inflight)) (oldest-row (b .desk .counts .inflight) 0 (b .outbox) h)
 
   -- the oldest that waits is the row after those in flight
-  pub waiting-row : b .desk .counts .inflight < b .desk .counts .payments → oldest (view b .outside .waiting) ≡ paymentAt (b .outbox) (b .desk .counts .inflight * 4)
+  pub waiting-row : b .desk .counts .inflight < b .desk .counts .payments → oldest (view b .outside .waiting) ≡ paymentAt (b .outbox) (b .desk .counts .inflight * paymentShape .width)
   unfolding view
   waiting-row h =
       rw (drop-rows paymentShape (b .desk .counts .payments) (b .desk .counts .inflight) (b .outbox) (f .inflight))
-      (oldest-row (b .desk .counts .payments - b .desk .counts .inflight) (b .desk .counts .inflight * 4) (b .outbox) (omega arith))
+      (oldest-row (b .desk .counts .payments - b .desk .counts .inflight) (b .desk .counts .inflight * paymentShape .width) (b .outbox) (omega arith))
 
 -- ---- the tables of refusals
 abbrev pub withdrawEntries : List ℕ → ℕ → ℕ → WithdrawalFields → List Entry
@@ -77,8 +78,8 @@ withdrawEntries balances used records w =
     ∷ (Refusal.BadAmount, not (isAmount (w .amount)))
     ∷ (Refusal.BadPayee, not (isPayee (w .payee)))
     ∷ (Refusal.Short, ltb (balance balances (w .member) (w .asset)) (w .amount))
-    ∷ (Refusal.OutboxFull, leb 32 used)
-    ∷ (Refusal.HistoryFull, leb 1024 records)
+    ∷ (Refusal.OutboxFull, leb outboxRows used)
+    ∷ (Refusal.HistoryFull, leb historyRows records)
     ∷ []
 
 pub withdraw-told : (balances : List ℕ) (used records : ℕ) (w : WithdrawalFields) (s : State)
@@ -185,18 +186,12 @@ can-settle b n a =
 
 -- ---- what is laid back into the outbox: with one row more, as it was, or with the first taken out
 module _ (b : Book) (f : Framed b) where
-  pub payment-added : (p : Payment) → b .desk .counts .payments < 32
+  pub payment-added : (p : Payment) → b .desk .counts .payments < outboxRows
       → lay paymentShape (view b .outside .inflight ++ (view b .outside .waiting ++ (p ∷ []))) (b .desk .counts .payments) (b .outbox)
-      ≡ putAt (b .desk .counts .payments * 4) (paymentShape .flat p) (b .outbox)
-  unfolding edited editedTable RoomFor putAt
+      ≡ putAt (b .desk .counts .payments * paymentShape .width) (paymentShape .flat p) (b .outbox)
   payment-added p h =
-      let e : suc (b .desk .counts .payments) * 4 ≡ b .desk .counts .payments * 4 + 4 = omega arith in
-      rw (
-        ← append-assoc (view b .outside .inflight) (view b .outside .waiting) (p ∷ []),
-        payments-are b f,
-        le-leb (b .desk .counts .payments * 4 + 4) (length (b .outbox)) (omega arith),
-      )
-      (lay-edited paymentShape paymentSound (Edit.add p) (b .desk .counts .payments) (b .outbox) (omega arith))
+      rw (← append-assoc (view b .outside .inflight) (view b .outside .waiting) (p ∷ []), payments-are b f)
+      (row-added paymentShape paymentSound (b .desk .counts .payments) (b .outbox) p (omega arith))
 
   pub added-count : (p : Payment) → length (view b .outside .inflight ++ (view b .outside .waiting ++ (p ∷ []))) ≡ b .desk .counts .payments + 1
   added-count p =
@@ -222,12 +217,9 @@ module _ (b : Book) (f : Framed b) where
       sym (drop-append-le 1 (view b .outside .inflight) (view b .outside .waiting) (omega arith)) ∙ ap (drop 1) (payments-are b f)
 
   pub payment-taken : 1 ≤ b .desk .counts .inflight
-      → lay paymentShape (drop 1 (view b .outside .inflight) ++ view b .outside .waiting) (b .desk .counts .payments) (b .outbox) ≡ takenOut 4 0 (b .desk .counts .payments) (b .outbox)
-  unfolding edited editedTable RoomFor takenOut
-  payment-taken h =
-      let s : 0 < b .desk .counts .payments = omega arith in
-      rw (rest-are h, le-leb (b .desk .counts .payments * 4) (length (b .outbox)) (omega arith), lt-ltb 0 (b .desk .counts .payments) s)
-      (lay-edited paymentShape paymentSound (Edit.takeOut 0) (b .desk .counts .payments) (b .outbox) (omega arith))
+      → lay paymentShape (drop 1 (view b .outside .inflight) ++ view b .outside .waiting) (b .desk .counts .payments) (b .outbox) ≡ takenOut (paymentShape .width) 0 (b .desk .counts .payments) (b .outbox)
+  unfolding edited
+  payment-taken h = rw (rest-are h) (row-taken paymentShape paymentSound (b .desk .counts .payments) (b .outbox) 0 (omega arith) (omega arith))
 
   pub taken-count : 1 ≤ b .desk .counts .inflight → length (drop 1 (view b .outside .inflight) ++ view b .outside .waiting) ≡ b .desk .counts .payments - 1
   taken-count h = rw (rest-are h) (length-drop 1 (outboxOf b) ∙ ap (λ (n : ℕ). n - 1) (length-rows paymentShape (b .desk .counts .payments) (b .outbox)))
@@ -242,19 +234,19 @@ module _ (b : Book) (f : Framed b) where
 -- ---- what is laid
 pub withdraw-laid : (b : Book) (w : WithdrawalFields) → Framed b → CanWithdraw (b .desk) w
     → bookOf (withdrawnDesk (b .desk) w) (b .inbox)
-    (putAt (b .desk .counts .payments * 4) (w .asset ∷ w .amount ∷ w .payee ∷ b .desk .counts .next .0 ∷ []) (b .outbox))
-    (putAt (b .desk .counts .records * 5) (3 ∷ w .asset ∷ w .amount ∷ w .member ∷ w .payee ∷ []) (b .history))
+    (putAt (b .desk .counts .payments * paymentShape .width) (paymentShape .flat (paymentOf w (b .desk .counts .next))) (b .outbox))
+    (putAt (b .desk .counts .records * recordShape .width) (recordShape .flat (withdrawalRecord w)) (b .history))
     ≡ done (Call.Withdraw w) b
 unfolding laid deskOf effect balancesAfter holdersAfter inboxEdit edited outsideAfter withdrawn recordsOf withdrawnDesk view
 withdraw-laid b w f h =
     rw (
       inbox-kept b f,
       payment-added b f (paymentOf w (b .desk .counts .next)) (h .payments),
-      record-added b f (record { kind = 3; asset = w .asset; amount = w .amount; first = w .member; second = w .payee }) (h .records),
+      record-added b f (withdrawalRecord w) (h .records),
       inbox-count b f,
       added-count b f (paymentOf w (b .desk .counts .next)),
       flight-count b f,
-      history-count b f (record { kind = 3; asset = w .asset; amount = w .amount; first = w .member; second = w .payee } ∷ []),
+      history-count b f (withdrawalRecord w ∷ []),
     )
 
 pub send-laid : (b : Book) → Framed b → b .desk .counts .inflight < b .desk .counts .payments
@@ -273,7 +265,7 @@ send-laid b f h =
     )
 
 pub settle-laid : (b : Book) (n : Nonce) → Framed b → 1 ≤ b .desk .counts .inflight
-    → bookOf (settledDesk (b .desk) (paymentAt (b .outbox) 0)) (b .inbox) (takenOut 4 0 (b .desk .counts .payments) (b .outbox)) (b .history)
+    → bookOf (settledDesk (b .desk) (paymentAt (b .outbox) 0)) (b .inbox) (takenOut (paymentShape .width) 0 (b .desk .counts .payments) (b .outbox)) (b .history)
     ≡ done (Call.Settle n) b
 unfolding laid deskOf effect balancesAfter holdersAfter inboxEdit edited outsideAfter settledOne recordsOf settledDesk view
 settle-laid b n f h =

@@ -3,6 +3,7 @@
 // of all three tables that it is lent, what it answers and what it leaves of the desk and every row.
 use desk::answers::is_done;
 use desk::answers::refuse;
+use desk::entries::withdrawal_record;
 use desk::fields::balance_of;
 use desk::fields::is_amount;
 use desk::fields::is_asset;
@@ -22,15 +23,16 @@ use rules::limits::OUTBOX_ROWS;
 use rules::limits::PAYMENT_WIDTH;
 use rules::rows::Nonce;
 use rules::rows::Payment;
-use rules::rows::Record;
 use tables::rows::put_payment;
 use tables::rows::put_record;
 use tables::take_out;
 ghost use mathlib.Core.Path.{_≡_};
-ghost use Prim.Native.Nat.{_-_, _≤_};
+ghost use Prim.Native.Nat.{_-_, _*_, _≤_};
 ghost use lib.ListN.{length, getD};
 ghost use Rattle.rules.specs.declared.calls.Call.{Call};
 ghost use Rattle.rules.specs.Facts.{Accepted};
+ghost use Rattle.rules.specs.Limits.{outboxRows};
+ghost use Rattle.rules.specs.Tables.{paymentShape};
 ghost use Rattle.rules.specs.State.{State, payments as paymentsOf};
 ghost use Rattle.rules.specs.Replies.{told, plain, smallest};
 ghost use Rattle.rules.specs.Refusals.{table};
@@ -81,13 +83,7 @@ pub fn withdraw_done(
         nonce,
     };
     put_payment(outbox, counts.payments, payment);
-    let entry = Record {
-        kind: 3,
-        asset: w.asset,
-        amount: w.amount,
-        first: w.member,
-        second: w.payee,
-    };
+    let entry = withdrawal_record(w);
     put_record(history, counts.records, entry);
     let desk = withdrawn(d, w);
     Answered {
@@ -267,7 +263,7 @@ fn settled(d: Desk, p: Payment) -> Desk
 
 // The payment whose four numbers lie from a place on.
 fn payment_at(t: &[u64], at: usize) -> Payment
-    requires { ⌜ at ≤ 128 ⌝ }
+    requires { ⌜ at ≤ outboxRows * paymentShape .width ⌝ }
     ensures { λ r. ⌜ r ≡ paymentAt (now (t .entry)) at ⌝ }
 {
     let asset = number_at(t, at);

@@ -2,6 +2,9 @@
 // written is decided in `runner`, proved on slices; here stand the order of reads and writes, and when to
 // stop.
 use libc::STDOUT_FILENO;
+use rules::limits::HISTORY_SIZE;
+use rules::limits::INBOX_SIZE;
+use rules::limits::OUTBOX_SIZE;
 use runner::feed::Feeding;
 use runner::feed::close;
 use runner::feed::run_some;
@@ -16,9 +19,9 @@ ghost use Rattle.program.specs.Turns.{given, Answers};
 
 // A whole session on what is open as fd, in tables of document 01's sizes, all zero.
 pub fn run(fd: i32) {
-    let mut inbox = [0; 256];
-    let mut outbox = [0; 128];
-    let mut history = [0; 5120];
+    let mut inbox = [0; INBOX_SIZE];
+    let mut outbox = [0; OUTBOX_SIZE];
+    let mut history = [0; HISTORY_SIZE];
     let mut hold = [0; 121];
     let mut input = io::large_buffer();
     let mut out = io::large_buffer();

@@ -1,5 +1,5 @@
 -- The frame as facts about the state, with the tables' sizes apart: what a book in frame gives, and what puts a laid book in frame.
-use Prim.Native.Nat.{_≤_}
+use Prim.Native.Nat.{_*_, _≤_}
 use mathlib.Core.Path.{_≡_}
 use mathlib.Core.Bool.{true}
 use native.Mathlib.Omega.{arith}
@@ -16,9 +16,9 @@ use Rattle.rules.proofs.Tests.{ands-at}
 
 -- the lent tables have their sizes
 pub record Sized (b : Book) : Type 0 where
-  pub inboxSize : length (b .inbox) ≡ 256
-  pub outboxSize : length (b .outbox) ≡ 128
-  pub historySize : length (b .history) ≡ 5120
+  pub inboxSize : length (b .inbox) ≡ inboxRows * depositShape .width
+  pub outboxSize : length (b .outbox) ≡ outboxRows * paymentShape .width
+  pub historySize : length (b .history) ≡ historyRows * recordShape .width
 
 -- every other clause of the frame, said of the state
 pub record Framed (s : State) : Type 0 where
@@ -41,9 +41,9 @@ pub sized : (b : Book) → inFrame b ≡ true → Sized b
 unfolding inFrame
 sized b h =
     record {
-      inboxSize = eqb-true (length (b .inbox)) 256 (ands-at _ 0 h);
-      outboxSize = eqb-true (length (b .outbox)) 128 (ands-at _ 1 h);
-      historySize = eqb-true (length (b .history)) 5120 (ands-at _ 2 h);
+      inboxSize = eqb-true (length (b .inbox)) (inboxRows * depositShape .width) (ands-at _ 0 h);
+      outboxSize = eqb-true (length (b .outbox)) (outboxRows * paymentShape .width) (ands-at _ 1 h);
+      historySize = eqb-true (length (b .history)) (historyRows * recordShape .width) (ands-at _ 2 h);
     }
 
 -- and its state is framed
@@ -51,9 +51,9 @@ pub framed : (b : Book) → inFrame b ≡ true → Framed (view b)
 unfolding inFrame
 framed b h =
     record {
-      unclaimed = unfold view in rw (length-rows depositShape (b .desk .counts .unclaimed) (b .inbox)) (leb-true (b .desk .counts .unclaimed) 64 (ands-at _ 3 h));
-      queued = unfold view in rw (take-append-drop (b .desk .counts .inflight) (outboxOf b), length-rows paymentShape (b .desk .counts .payments) (b .outbox)) (leb-true (b .desk .counts .payments) 32 (ands-at _ 4 h));
-      records = unfold view in rw (length-rows recordShape (b .desk .counts .records) (b .history)) (leb-true (b .desk .counts .records) 1024 (ands-at _ 5 h));
+      unclaimed = unfold view in rw (length-rows depositShape (b .desk .counts .unclaimed) (b .inbox)) (leb-true (b .desk .counts .unclaimed) inboxRows (ands-at _ 3 h));
+      queued = unfold view in rw (take-append-drop (b .desk .counts .inflight) (outboxOf b), length-rows paymentShape (b .desk .counts .payments) (b .outbox)) (leb-true (b .desk .counts .payments) outboxRows (ands-at _ 4 h));
+      records = unfold view in rw (length-rows recordShape (b .desk .counts .records) (b .history)) (leb-true (b .desk .counts .records) historyRows (ands-at _ 5 h));
       balances = ands-at _ 7 h;
       lifetime = ands-at _ 8 h;
       settled = ands-at _ 9 h;
@@ -72,12 +72,12 @@ unfolding inFrame ands
 in-frame s b f z =
     rw (
       view-laid s b,
-      eq-eqb (length (laid s b .inbox)) 256 (z .inboxSize),
-      eq-eqb (length (laid s b .outbox)) 128 (z .outboxSize),
-      eq-eqb (length (laid s b .history)) 5120 (z .historySize),
-      le-leb (laid s b .desk .counts .unclaimed) 64 (unfold laid deskOf in f .unclaimed),
-      le-leb (laid s b .desk .counts .payments) 32 (unfold laid deskOf in f .queued),
-      le-leb (laid s b .desk .counts .records) 1024 (unfold laid deskOf in f .records),
+      eq-eqb (length (laid s b .inbox)) (inboxRows * depositShape .width) (z .inboxSize),
+      eq-eqb (length (laid s b .outbox)) (outboxRows * paymentShape .width) (z .outboxSize),
+      eq-eqb (length (laid s b .history)) (historyRows * recordShape .width) (z .historySize),
+      le-leb (laid s b .desk .counts .unclaimed) inboxRows (unfold laid deskOf in f .unclaimed),
+      le-leb (laid s b .desk .counts .payments) outboxRows (unfold laid deskOf in f .queued),
+      le-leb (laid s b .desk .counts .records) historyRows (unfold laid deskOf in f .records),
       le-leb (laid s b .desk .counts .inflight) (laid s b .desk .counts .payments) (unfold laid deskOf in rw length-append (omega arith)),
       f .balances,
       f .lifetime,

@@ -9,6 +9,7 @@ use borrow.Author.Tests.{le-leb, eq-eqb, ne-eqb}
 use Rattle.promises.specs.Types.{Deposit, Record, ClaimFields, Call}
 use Rattle.rules.specs.Limits.{ceiling, highestNumber}
 use Rattle.rules.specs.Lists.{indexOf}
+use Rattle.rules.specs.Tables.{noDeposit}
 use Rattle.rules.specs.State.{State, firstHolders}
 use Rattle.rules.specs.Effects.{effect, balance, balancesAfter, holder, holdersAfter, matches, recordsOf}
 use Rattle.rules.specs.Frame.{numbersRise}
@@ -54,7 +55,7 @@ rise-at before last (e ∷ ds) (suc i) d h l =
 claim-number : (s : State) (c : ClaimFields) → ClaimFit s c → Framed s → Within 1 highestNumber (c .number .0)
 claim-number s c k f =
     let m : Matched c (claimed c (s .inbox)) = matched c (s .inbox) (k .found) in
-    let (p, q) = rise-at 0 (s .outside .last .0) (s .inbox) (indexOf (matches c) (s .inbox)) (record { number = record { 0 = 0 }; asset = 0; amount = 0; member = 0 }) (f .numbers) (found-in (matches c) (s .inbox) (k .found)) in
+    let (p, q) = rise-at 0 (s .outside .last .0) (s .inbox) (indexOf (matches c) (s .inbox)) noDeposit (f .numbers) (found-in (matches c) (s .inbox) (k .found)) in
     record { low = omega (arith, m .number); high = omega (arith, m .number, f .last) }
 
 -- the record of an accepted call fits where it stands

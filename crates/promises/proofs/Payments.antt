@@ -8,8 +8,9 @@ use lib.ListN.{length, getD}
 use lib.Seq.{getD-append-add}
 use Rattle.promises.specs.Types.{Nonce, Payment, Record, Call}
 use Rattle.rules.specs.Lists.{those, joined}
+use Rattle.rules.specs.Tables.{noRecord}
 use Rattle.rules.specs.State.{Book, view}
-use Rattle.rules.specs.Effects.{effect, recordsOf}
+use Rattle.rules.specs.Effects.{effect, withdrawalRecord, recordsOf}
 use Rattle.rules.specs.History.{isWithdrawal, withdrawals}
 use Rattle.rules.specs.Runs.{run, itself, accepted}
 use Rattle.rules.proofs.Laying.{joined-append}
@@ -80,7 +81,7 @@ queued-kept qs ys b (Call.Deposit d) a r h = no-payment qs (view b .history) [] 
 queued-kept qs ys b (Call.Claim c) a r h = no-payment qs (view b .history) (recordsOf (Call.Claim c)) refl h
 queued-kept qs ys b (Call.Transfer t) a r h = no-payment qs (view b .history) (recordsOf (Call.Transfer t)) refl h
 queued-kept qs ys b (Call.Withdraw w) a r h =
-    one-payment qs (view b .history) (record { kind = 3; asset = w .asset; amount = w .amount; first = w .member; second = w .payee }) (view b .outside .next) refl (r .agreed .counts) h
+    one-payment qs (view b .history) (withdrawalRecord w) (view b .outside .next) refl (r .agreed .counts) h
 queued-kept qs ys b Call.Send a r h = no-payment qs (view b .history) [] refl h
 queued-kept qs ys b (Call.Settle n) a r h = no-payment qs (view b .history) [] refl h
 queued-kept qs ys b (Call.Grant g) a r h = no-payment qs (view b .history) (recordsOf (Call.Grant g)) refl h
@@ -112,5 +113,5 @@ queued-nth b cs r n low i =
     sym (getD-append-add first (queued b cs) (n .0 - k) noPayment)
     ∙ ap (λ (j : ℕ). getD (first ++ queued b cs) j noPayment) e
     ∙ ap (λ (ps : List Payment). getD ps (n .0) noPayment) (queued-run b cs r)
-    ∙ payment-nth 0 (those isWithdrawal (view (run b cs) .history)) (n .0) (record { kind = 0; asset = 0; amount = 0; first = 0; second = 0 }) i
+    ∙ payment-nth 0 (those isWithdrawal (view (run b cs) .history)) (n .0) noRecord i
     ∙ rw (zero-add (n .0))

@@ -10,7 +10,7 @@ use borrow.Author.Tests.{eqb-true}
 use Rattle.promises.specs.Types.{Deposit, Payment, ClaimFields, Call}
 use Rattle.rules.specs.Limits.{isAsset, isAmount, isPayee, assetCount}
 use Rattle.rules.specs.Lists.{all, any, indexOf, sumOf}
-use Rattle.rules.specs.Tables.{edited}
+use Rattle.rules.specs.Tables.{edited, noDeposit}
 use Rattle.rules.specs.State.{Outside, State, payments}
 use Rattle.rules.specs.Effects.{effect, debit, balancesAfter, matches, inboxEdit, oldest, paymentOf, deposited, withdrawn, sent, settledOne, outsideAfter}
 use Rattle.rules.specs.Frame.{paymentInLimits}
@@ -50,9 +50,6 @@ unfolding sent
 sent-payments o = append-assoc (o .inflight) (take 1 (o .waiting)) (drop 1 (o .waiting)) ∙ ap (λ (ps : List Payment). o .inflight ++ ps) (take-append-drop 1 (o .waiting))
 
 -- ---- the claimed deposit
-abbrev noDeposit : Deposit
-noDeposit = record { number = record { 0 = 0 }; asset = 0; amount = 0; member = 0 }
-
 -- the row that a claim takes out
 abbrev pub claimed : ClaimFields → List Deposit → Deposit
 claimed c inbox = getD inbox (indexOf (matches c) inbox) noDeposit

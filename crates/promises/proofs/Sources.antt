@@ -7,7 +7,7 @@ use Rattle.promises.specs.Types.{Deposit, Record, Lot, ClaimFields, Call
 use Rattle.rules.specs.Lists.{all, any, those, indexOf}
 use Rattle.rules.specs.Tables.{edited}
 use Rattle.rules.specs.State.{State, Book, view}
-use Rattle.rules.specs.Effects.{effect, matches, inboxEdit, recordsOf}
+use Rattle.rules.specs.Effects.{effect, matches, inboxEdit, claimRecord, recordsOf}
 use Rattle.rules.specs.Runs.{run, depositing, deposits}
 use Rattle.rules.proofs.Digits.{all-append, all-imply}
 use Rattle.rules.specs.Facts.{Accepted, ClaimFit}
@@ -23,10 +23,6 @@ use Rattle.promises.proofs.Reached.{started-keeps}
 -- ---- the invariant
 abbrev isClaim : Record → Bool
 isClaim r = eqb (r .kind) 1
-
--- the record that a claim writes
-abbrev claimRecord : ClaimFields → Record
-claimRecord c = record { kind = 1; asset = c .asset; amount = c .amount; first = c .member; second = c .number .0 }
 
 -- of what was there, and of the deposits and claims so far: the history's claims are those that were there and then those claims; whatever some row of the inbox passes, some deposit passes; and each claim met a deposit
 record Sourced (h₀ : List Record) (ds₀ ds : List Deposit) (ks : List ClaimFields) (s : State) : Type 0 where

@@ -6,6 +6,7 @@ use lib.Dec.{eqb}
 use lib.ListN.{take, drop, replicate}
 use Rattle.promises.specs.Types.{Nonce, Deposit, Payment, Record, Lot, ClaimFields, Call}
 use Rattle.rules.specs.Lists.{any}
+pub use Rattle.rules.specs.Tables.{noPayment}
 use Rattle.rules.specs.State.{Book, view}
 use Rattle.rules.specs.Effects.{holder, matches, paymentOf}
 use Rattle.rules.specs.History.{Kind, kindOf, byFirst, bySecond}
@@ -69,10 +70,6 @@ sendCalls (c ∷ cs) = isSend c + sendCalls cs
 
 abbrev pub waitingIn : Book → List Payment
 waitingIn b = view b .outside .waiting
-
--- a payment, to stand where there is none
-abbrev pub noPayment : Payment
-noPayment = record { asset = 0; amount = 0; payee = 0; nonce = record { 0 = 0 } }
 
 -- ---- claims
 -- the claim that a call makes

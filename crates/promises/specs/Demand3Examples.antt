@@ -22,13 +22,13 @@ writtenOn =
 
 -- rows by their numbers
 abbrev pub deposited : ℕ → ℕ → ℕ → ℕ → Deposit
-deposited n a x m = record { number = record { 0 = n }; asset = a; amount = x; member = m }
+deposited n a x m = depositShape .row (n ∷ a ∷ x ∷ m ∷ [])
 
 abbrev pub payment : ℕ → ℕ → ℕ → ℕ → Payment
-payment a x p n = record { asset = a; amount = x; payee = p; nonce = record { 0 = n } }
+payment a x p n = paymentShape .row (a ∷ x ∷ p ∷ n ∷ [])
 
 abbrev pub recorded : ℕ → ℕ → ℕ → ℕ → ℕ → Record
-recorded k a x first second = record { kind = k; asset = a; amount = x; first = first; second = second }
+recorded k a x first second = recordShape .row (k ∷ a ∷ x ∷ first ∷ second ∷ [])
 
 -- ---- the outside
 -- member 2 claims, and pays three times; the first payment is sent and settled, the second is in flight

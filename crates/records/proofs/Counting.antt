@@ -10,9 +10,9 @@ use borrow.Author.Tests.{leb-true, le-leb, eqb-true}
 use Rattle.rules.specs.declared.rows.Record.{Record}
 use Rattle.rules.specs.declared.answers.Refusal.{Refusal}
 use Rattle.rules.specs.declared.answers.Origin.{Origin}
-use Rattle.rules.specs.Limits.{ceiling, isMember, isAsset}
+use Rattle.rules.specs.Limits.{ceiling, historyRows, isMember, isAsset}
 use Rattle.rules.specs.Lists.{all}
-use Rattle.rules.specs.Tables.{rowsOf, recordShape}
+use Rattle.rules.specs.Tables.{rowsOf, recordShape, noRecord}
 use Rattle.rules.specs.State.{Book, firstHolders, historyOf}
 use Rattle.rules.specs.Effects.{balance}
 use Rattle.rules.specs.Frame.{inFrame}
@@ -84,9 +84,8 @@ provenance-low : (m a n : ℕ) (h : List Record) → all (λ r. leb (r .amount) 
 unfolding provenance
 provenance-low m a zero h l = omega arith
 provenance-low m a (suc n) h l =
-    let none : Record = record { kind = 0; asset = 0; amount = 0; first = 0; second = 0 } in
-    let x : getD h n none .amount ≤ ceiling = leb-true (getD h n none .amount) ceiling (all-at (λ r. leb (r .amount) ceiling) h n none refl l) in
-    omega (arith, counted-low (kindOf (getD h n none)) m a (getD h n none) (provenance m a n h), provenance-low m a n h l)
+    let x : getD h n noRecord .amount ≤ ceiling = leb-true (getD h n noRecord .amount) ceiling (all-at (λ r. leb (r .amount) ceiling) h n noRecord refl l) in
+    omega (arith, counted-low (kindOf (getD h n noRecord)) m a (getD h n noRecord) (provenance m a n h), provenance-low m a n h l)
 
 -- ---- going back is safe
 module _ (t : List ℕ) (n : ℕ) (can : CanWork t n) (some : 1 ≤ n) where
@@ -137,7 +136,7 @@ pub history-whole : (b : Book) → inFrame b ≡ true → historyFrame (b .histo
 unfolding historyFrame
 history-whole b e =
     let f : Framed b = framed b e in
-    rw (le-leb (b .desk .counts .records) 1024 (f .records), le-leb (b .desk .counts .records * 5) (length (b .history)) (omega arith))
+    rw (le-leb (b .desk .counts .records) historyRows (f .records), le-leb (b .desk .counts .records * recordShape .width) (length (b .history)) (omega arith))
 
 pub frame-whole : (b : Book) → inFrame b && historyFrame (b .history) (b .desk .counts .records) ≡ inFrame b && historyInFrame (historyOf b)
 frame-whole b = go (inFrame b) refl

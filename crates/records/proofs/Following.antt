@@ -8,7 +8,7 @@ use lib.Dec.{leb}
 use lib.ListN.{length, getD}
 use borrow.Author.Tests.{leb-true, le-leb, lt-leb}
 use Rattle.rules.specs.declared.rows.Record.{Record}
-use Rattle.rules.specs.Limits.{ceiling, isMember, isAsset, isAmount, isDomain}
+use Rattle.rules.specs.Limits.{ceiling, historyRows, isMember, isAsset, isAmount, isDomain}
 use Rattle.rules.specs.Lists.{all}
 use Rattle.rules.specs.Tables.{rowsOf, recordShape}
 use Rattle.rules.specs.Effects.{cell, balance, credit, debit}
@@ -99,7 +99,7 @@ pub low-first : allUpTo 0 (standingFrom firstHolders .balances) ≡ true
 unfolding standingFrom emptyState all
 low-first = refl
 
-pub can-follow : (i : ℕ) (bs hs : List ℕ) (r : Record) → i < 1024 → fits (standing bs hs) r ≡ true → allUpTo (i * ceiling) bs ≡ true → CanFollow bs hs r
+pub can-follow : (i : ℕ) (bs hs : List ℕ) (r : Record) → i < historyRows → fits (standing bs hs) r ≡ true → allUpTo (i * ceiling) bs ≡ true → CanFollow bs hs r
 can-follow i bs hs r l f h = record { fits = f; low = more-room (i * ceiling) mostBefore bs (omega arith) h }
 
 -- ---- the loop over the records
@@ -113,17 +113,17 @@ module _ (t : List ℕ) (n : ℕ) where
   abbrev pub HistoryFrom : Replayed → ℕ → Type 0
   HistoryFrom s i = historyFrame t n ≡ passes fits standingAfter s (rest recordShape n i t)
 
-  pub history-count : 1024 < n → false ≡ historyFrame t n
+  pub history-count : historyRows < n → false ≡ historyFrame t n
   unfolding historyFrame
-  history-count h = rw (lt-leb n 1024 h)
+  history-count h = rw (lt-leb n historyRows h)
 
-  pub history-size : n ≤ 1024 → length t < n * 5 → false ≡ historyFrame t n
+  pub history-size : n ≤ historyRows → length t < n * recordShape .width → false ≡ historyFrame t n
   unfolding historyFrame
-  history-size h l = rw (le-leb n 1024 h, lt-leb (n * 5) (length t) l)
+  history-size h l = rw (le-leb n historyRows h, lt-leb (n * recordShape .width) (length t) l)
 
-  pub history-none : n ≤ 1024 → n * 5 ≤ length t → (s : Replayed) → s ≡ standingFrom firstHolders → HistoryFrom s 0
+  pub history-none : n ≤ historyRows → n * recordShape .width ≤ length t → (s : Replayed) → s ≡ standingFrom firstHolders → HistoryFrom s 0
   unfolding historyFrame
-  history-none h l s e = rw (le-leb n 1024 h, le-leb (n * 5) (length t) l, rest-all recordShape n t, e) (replays-pass (standingFrom firstHolders) (rowsOf recordShape n t))
+  history-none h l s e = rw (le-leb n historyRows h, le-leb (n * recordShape .width) (length t) l, rest-all recordShape n t, e) (replays-pass (standingFrom firstHolders) (rowsOf recordShape n t))
 
   pub history-fails : (s : Replayed) (i : ℕ) → i < n → HistoryFrom s i → fits s (rowAt recordShape i t) ≡ false → false ≡ historyFrame t n
   history-fails s i h f e = sym (f ∙ passes-fails recordShape fits standingAfter n s i t h e)

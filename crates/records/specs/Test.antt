@@ -36,4 +36,4 @@ pub record CanFollow (balances holders : List ℕ) (r : Record) : Type 0 where
 
 -- the first n rows of a table are a history in frame; no more than a history can have, and no more than the table has
 unfoldable pub historyFrame : List ℕ → ℕ → Bool
-historyFrame t n = leb n historyRows && (lieWithin 5 n t && historyInFrame (rowsOf recordShape n t))
+historyFrame t n = leb n historyRows && (lieWithin (recordShape .width) n t && historyInFrame (rowsOf recordShape n t))

@@ -6,6 +6,7 @@ pub mod origin;
 use crate::frame::history_in_frame;
 use frames::framed;
 use rules::desk::Desk;
+use rules::limits::RECORD_WIDTH;
 use rules::rows::Record;
 ghost use mathlib.Core.Path.{_≡_};
 ghost use mathlib.Core.Bool.{_&&_};
@@ -22,8 +23,8 @@ ghost use Rattle.tables.specs.Rows.{rowAt};
 pub fn record_at(history: &[u64], i: usize) -> Record
     ensures { λ r. ⌜ r ≡ rowAt recordShape i (now (history .entry)) ⌝ }
 {
-    if i < history.len() / 5 {
-        let at = i * 5;
+    if i < history.len() / RECORD_WIDTH {
+        let at = i * RECORD_WIDTH;
         return Record {
             kind: history[at],
             asset: history[at + 1],
@@ -43,12 +44,12 @@ pub fn record_at(history: &[u64], i: usize) -> Record
 
 // Number k of row i, or 0 where the table ends before it.
 fn number_at(history: &[u64], i: usize, k: usize) -> u64
-    ensures { λ r. ⌜ r ≡ getD (now (history .entry)) (i * 5 + k) 0 ⌝ }
+    ensures { λ r. ⌜ r ≡ getD (now (history .entry)) (i * recordShape .width + k) 0 ⌝ }
 {
-    if history.len() / 5 < i {
+    if history.len() / RECORD_WIDTH < i {
         return 0;
     }
-    let at = i * 5;
+    let at = i * RECORD_WIDTH;
     if history.len() - at <= k {
         return 0;
     }

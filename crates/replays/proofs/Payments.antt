@@ -12,7 +12,7 @@ use borrow.Author.Tests.{eqb-true, ne-eqb, le-leb, lt-leb, leb-true, leb-false, 
 use Rattle.rules.specs.declared.rows.Record.{Record}
 use Rattle.rules.specs.declared.rows.Lot.{Lot}
 use Rattle.rules.specs.Lists.{those}
-use Rattle.rules.specs.Tables.{Shape, rowsOf, recordShape}
+use Rattle.rules.specs.Tables.{Shape, rowsOf, recordShape, noRecord}
 use Rattle.rules.specs.History.{isWithdrawal, withdrawals}
 use Rattle.rules.specs.Lots.{takenBy, lotsAfter, replay, traceFrom}
 use Rattle.rules.proofs.Laying.{length-rows, take-rows, more}
@@ -106,12 +106,11 @@ module _ (t : List ℕ) (records n : ℕ) (paid : n < withdrawals (rowsOf record
       ≡ takenBy (rowAt recordShape (length (beforePayment n (rowsOf recordShape records t))) t) (replay [] (rowsOf recordShape (length (beforePayment n (rowsOf recordShape records t))) t))
   unfolding h place
   pieces-there =
-      let none : Record = record { kind = 0; asset = 0; amount = 0; first = 0; second = 0 } in
       let p : PaymentAt n h = payment-at n h paid in
       let before : List Record = beforePayment n h in
       let w : Record = nthWithdrawal n h in
       let e : w ≡ rowAt recordShape place t =
-      sym (getD-append-seam before w (afterPayment n h) none) ∙ ap (λ (k : List Record). getD k place none) (sym (p .whole)) ∙ getD-rows recordShape records place t none place-in in
+      sym (getD-append-seam before w (afterPayment n h) noRecord) ∙ ap (λ (k : List Record). getD k place noRecord) (sym (p .whole)) ∙ getD-rows recordShape records place t noRecord place-in in
       let f : before ≡ rowsOf recordShape place t =
       sym (take-append-seam before (w ∷ afterPayment n h)) ∙ ap (take place) (sym (p .whole)) ∙ take-rows recordShape records place t (omega (arith, place-in)) in
       pieces-at h (record { 0 = n }) paid ∙ mathlib.Core.Path.ap₂ (λ (x : Record) (y : List Record). takenBy x (replay [] y)) e f

@@ -1,5 +1,5 @@
 -- A book in frame: what it gives of its tables; and what an accepted call leaves of them, one edit each.
-use Prim.Native.Nat.{ℕ, zero, suc, _+_, _≤_, _<_, zero-le, suc-le-suc}
+use Prim.Native.Nat.{ℕ, zero, suc, _+_, _*_, _≤_, _<_, zero-le, suc-le-suc}
 use mathlib.Core.Path.{_≡_, refl, sym, ap, _∙_}
 use mathlib.Core.Bool.{Bool, true, false, not, _||_, cond, false≢true}
 use mathlib.Core.List.{List, [], _∷_, _++_, append-assoc, append-nil}
@@ -10,6 +10,7 @@ use lib.ListN.{length, take, drop, take-append-drop, length-append}
 use lib.Seq.{length-take-le, drop-append-le}
 use borrow.Author.Tests.{leb-true, eqb-true, eqb-false}
 use Rattle.rules.specs.Types.{Payment, Record, Call}
+use Rattle.rules.specs.Limits.{inboxRows, outboxRows, historyRows, highestNumber, highestNext}
 use Rattle.rules.specs.Lists.{all, any, indexOf}
 use Rattle.rules.specs.Tables.{Edit, lay, edited, appended, editedTable, depositShape, paymentShape, recordShape}
 use Rattle.rules.specs.State.{State, Book, inboxOf, outboxOf, historyOf, payments, view, laid, deskOf}
@@ -25,18 +26,18 @@ use Rattle.rules.proofs.Accepts.{by-number, fit, roomy, accepted-frame}
 
 -- ---- a book in frame
 pub record Framed (b : Book) : Type 0 where
-  pub inboxSize : length (b .inbox) ≡ 256
-  pub outboxSize : length (b .outbox) ≡ 128
-  pub historySize : length (b .history) ≡ 5120
-  pub unclaimed : b .desk .counts .unclaimed ≤ 64
-  pub payments : b .desk .counts .payments ≤ 32
-  pub records : b .desk .counts .records ≤ 1024
+  pub inboxSize : length (b .inbox) ≡ inboxRows * depositShape .width
+  pub outboxSize : length (b .outbox) ≡ outboxRows * paymentShape .width
+  pub historySize : length (b .history) ≡ historyRows * recordShape .width
+  pub unclaimed : b .desk .counts .unclaimed ≤ inboxRows
+  pub payments : b .desk .counts .payments ≤ outboxRows
+  pub records : b .desk .counts .records ≤ historyRows
   pub inflight : b .desk .counts .inflight ≤ b .desk .counts .payments
   pub balances : all upToCeiling (b .desk .balances) ≡ true
   pub lifetime : all upToCeiling (b .desk .lifetime) ≡ true
   pub settled : all upToCeiling (b .desk .settled) ≡ true
-  pub last : b .desk .counts .last .0 ≤ 4294967295
-  pub next : b .desk .counts .next .0 ≤ 1024
+  pub last : b .desk .counts .last .0 ≤ highestNumber
+  pub next : b .desk .counts .next .0 ≤ highestNext
 
 pub framed : (b : Book) → inFrame b ≡ true → Framed b
 unfolding inFrame view

@@ -7,6 +7,7 @@ use Prim.Native.Nat.{ℕ}
 use mathlib.Core.List.{List, []}
 use lib.ListN.{replicate}
 use Rattle.rules.specs.Types.{DepositNumber, Deposit, Payment, Answer}
+use Rattle.rules.specs.Tables.{noRecord}
 use Rattle.rules.specs.State.{Outside, State}
 use Rattle.rules.specs.Replies.{Reply, told}
 use Rattle.rules.proofs.Told.{told-once, once}
@@ -55,7 +56,7 @@ someState balances holders inbox outside records =
       holders = holders;
       inbox = inbox;
       outside = outside;
-      history = replicate records (record { kind = 0; asset = 0; amount = 0; first = 0; second = 0 });
+      history = replicate records noRecord;
     }
 
 abbrev pub someOutside : List ℕ → DepositNumber → List Payment → List Payment → Outside

@@ -1,40 +1,40 @@
 -- The three shapes are sound, so the layout laws hold of every table; and a book's state is what was laid.
-use Prim.Native.Nat.{ℕ}
-use mathlib.Core.Path.{_≡_, refl}
+use Prim.Native.Nat.{ℕ, zero, suc, _+_}
+use mathlib.Core.Path.{_≡_, refl, sym}
 use mathlib.Core.List.{List, [], _∷_}
 use native.Mathlib.Omega.{arith}
-use lib.ListN.{length, getD}
-use lib.Seq.{take-append-seam, drop-append-seam}
+use lib.ListN.{length, getD, drop, drop-of-length-le}
+use lib.Seq.{drop-cons, take-append-seam, drop-append-seam}
 use Rattle.rules.specs.Tables.{depositShape, paymentShape, recordShape}
 use Rattle.rules.specs.State.{State, Book, view, deskOf, laid, payments}
 use Rattle.rules.proofs.Laying.{Sound, rows-laid}
 
--- four numbers are four numbers, and five are five
-four-back : (r : List ℕ) → length r ≡ 4 → getD r 0 0 ∷ getD r 1 0 ∷ getD r 2 0 ∷ getD r 3 0 ∷ [] ≡ r
-four-back [] e = absurd (omega arith)
-four-back (a ∷ []) e = absurd (omega arith)
-four-back (a ∷ b ∷ []) e = absurd (omega arith)
-four-back (a ∷ b ∷ c ∷ []) e = absurd (omega arith)
-four-back (a ∷ b ∷ c ∷ d ∷ []) e = refl
-four-back (a ∷ b ∷ c ∷ d ∷ x ∷ r) e = absurd (omega arith)
+-- so many numbers of a row from place k on, each read at its place
+unfoldable numbersFrom : ℕ → ℕ → List ℕ → List ℕ
+numbersFrom k zero r = []
+numbersFrom k (suc n) r = getD r k 0 ∷ numbersFrom (suc k) n r
 
-five-back : (r : List ℕ) → length r ≡ 5 → getD r 0 0 ∷ getD r 1 0 ∷ getD r 2 0 ∷ getD r 3 0 ∷ getD r 4 0 ∷ [] ≡ r
-five-back [] e = absurd (omega arith)
-five-back (a ∷ []) e = absurd (omega arith)
-five-back (a ∷ b ∷ []) e = absurd (omega arith)
-five-back (a ∷ b ∷ c ∷ []) e = absurd (omega arith)
-five-back (a ∷ b ∷ c ∷ d ∷ []) e = absurd (omega arith)
-five-back (a ∷ b ∷ c ∷ d ∷ x ∷ []) e = refl
-five-back (a ∷ b ∷ c ∷ d ∷ x ∷ y ∷ r) e = absurd (omega arith)
+-- up to the row's end they are what it has from there on
+numbers-left : (n k : ℕ) (r : List ℕ) → k + n ≡ length r → numbersFrom k n r ≡ drop k r
+unfolding numbersFrom
+numbers-left zero k r e = sym (drop-of-length-le r {i = k} (omega arith))
+numbers-left (suc n) k r e = rw (drop-cons r k 0 (omega arith), numbers-left n (suc k) r (omega arith))
+
+-- and all of them are the row
+numbers-back : (n : ℕ) (r : List ℕ) → length r ≡ n → numbersFrom 0 n r ≡ r
+numbers-back n r e = numbers-left n 0 r (omega arith)
 
 pub depositSound : Sound depositShape
-depositSound = record { wide = λ a. refl; back = λ a. refl; forth = four-back }
+unfolding numbersFrom
+depositSound = record { wide = λ a. refl; back = λ a. refl; forth = numbers-back (depositShape .width) }
 
 pub paymentSound : Sound paymentShape
-paymentSound = record { wide = λ a. refl; back = λ a. refl; forth = four-back }
+unfolding numbersFrom
+paymentSound = record { wide = λ a. refl; back = λ a. refl; forth = numbers-back (paymentShape .width) }
 
 pub recordSound : Sound recordShape
-recordSound = record { wide = λ a. refl; back = λ a. refl; forth = five-back }
+unfolding numbersFrom
+recordSound = record { wide = λ a. refl; back = λ a. refl; forth = numbers-back (recordShape .width) }
 
 -- the view of what was laid is the state that was laid
 pub view-laid : (s : State) (b : Book) → view (laid s b) ≡ s

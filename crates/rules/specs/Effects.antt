@@ -4,10 +4,10 @@ use mathlib.Core.Bool.{Bool, true, false, _&&_, cond}
 use mathlib.Core.List.{List, [], _∷_, _++_}
 use lib.Dec.{eqb}
 use lib.ListN.{getD, set, take, drop}
-use Rattle.rules.specs.Types.{Nonce, Deposit, Payment, Record, ClaimFields, WithdrawalFields, Call}
+use Rattle.rules.specs.Types.{Nonce, Deposit, Payment, Record, ClaimFields, TransferFields, WithdrawalFields, GrantFields, Call}
 use Rattle.rules.specs.Limits.{isMember, isAsset, isDomain, assetCount}
 use Rattle.rules.specs.Lists.{indexOf}
-use Rattle.rules.specs.Tables.{Edit, edited, appended}
+use Rattle.rules.specs.Tables.{Edit, edited, appended, noPayment}
 use Rattle.rules.specs.State.{Outside, State}
 
 -- ---- balances: the eight of member 1, then those of member 2, and so on
@@ -79,7 +79,7 @@ raised ts a x = set ts (a - 1) (total ts a + x)
 
 -- the oldest payment of a list; of none, zeros
 unfoldable pub oldest : List Payment → Payment
-oldest ps = getD ps 0 (record { asset = 0; amount = 0; payee = 0; nonce = record { 0 = 0 } })
+oldest ps = getD ps 0 noPayment
 
 -- "asset, amount, payee and the next nonce join the end of the outbox"
 abbrev pub paymentOf : WithdrawalFields → Nonce → Payment
@@ -143,14 +143,26 @@ outboxEdit (Call.Sign s) o = Edit.keep
 outboxEdit (Call.Trace n) o = Edit.keep
 
 -- ---- history: "Claim, transfer, withdraw and grant each append one history record"
+abbrev pub claimRecord : ClaimFields → Record
+claimRecord c = record { kind = 1; asset = c .asset; amount = c .amount; first = c .member; second = c .number .0 }
+
+abbrev pub transferRecord : TransferFields → Record
+transferRecord t = record { kind = 2; asset = t .asset; amount = t .amount; first = t .from; second = t .to }
+
+abbrev pub withdrawalRecord : WithdrawalFields → Record
+withdrawalRecord w = record { kind = 3; asset = w .asset; amount = w .amount; first = w .member; second = w .payee }
+
+abbrev pub grantRecord : GrantFields → Record
+grantRecord g = record { kind = 4; asset = g .domain; amount = 1; first = g .from; second = g .to }
+
 unfoldable pub recordsOf : Call → List Record
 recordsOf (Call.Deposit d) = []
-recordsOf (Call.Claim c) = record { kind = 1; asset = c .asset; amount = c .amount; first = c .member; second = c .number .0 } ∷ []
-recordsOf (Call.Transfer t) = record { kind = 2; asset = t .asset; amount = t .amount; first = t .from; second = t .to } ∷ []
-recordsOf (Call.Withdraw w) = record { kind = 3; asset = w .asset; amount = w .amount; first = w .member; second = w .payee } ∷ []
+recordsOf (Call.Claim c) = claimRecord c ∷ []
+recordsOf (Call.Transfer t) = transferRecord t ∷ []
+recordsOf (Call.Withdraw w) = withdrawalRecord w ∷ []
 recordsOf Call.Send = []
 recordsOf (Call.Settle n) = []
-recordsOf (Call.Grant g) = record { kind = 4; asset = g .domain; amount = 1; first = g .from; second = g .to } ∷ []
+recordsOf (Call.Grant g) = grantRecord g ∷ []
 recordsOf (Call.Sign s) = []
 recordsOf (Call.Trace n) = []
 

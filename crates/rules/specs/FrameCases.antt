@@ -1,11 +1,12 @@
 -- Document 01, "Out of frame": for each clause books that break it and nothing else. The book that they are made of is in frame.
-use Prim.Native.Nat.{ℕ, _+_}
+use Prim.Native.Nat.{ℕ, _+_, _-_, _*_}
 use mathlib.Core.Bool.{cond}
 use mathlib.Core.List.{List, [], _∷_, _++_}
 use lib.Dec.{eqb}
-use lib.ListN.{take, set}
+use lib.ListN.{length, take, set}
 use Rattle.rules.specs.Types.{Call, Desk}
 use Rattle.rules.specs.Limits.{ceiling}
+use Rattle.rules.specs.Tables.{Shape, depositShape, paymentShape, recordShape}
 use Rattle.rules.specs.State.{Book, emptyBook}
 use Rattle.rules.specs.Runs.{run}
 use Rattle.rules.specs.Cases.{deposit, claim, transfer, withdraw, grant}
@@ -101,14 +102,31 @@ recordsAs n = countAs 5 n
 abbrev pub with : ℕ → ℕ → List ℕ → List ℕ
 with i v l = set l i v
 
+-- another number at a place of a row
+abbrev pub rowWith : {A : Type 0} → Shape A → ℕ → ℕ → ℕ → List ℕ → List ℕ
+rowWith shape row i v t = set t (row * shape .width + i) v
+
+abbrev pub depositWith : ℕ → ℕ → ℕ → Book
+depositWith row i v = inboxAs (rowWith depositShape row i v)
+
+abbrev pub paymentWith : ℕ → ℕ → ℕ → Book
+paymentWith row i v = outboxAs (rowWith paymentShape row i v)
+
+abbrev pub recordWith : ℕ → ℕ → ℕ → Book
+recordWith row i v = historyAs (rowWith recordShape row i v)
+
+-- a table one number short
+abbrev pub short : List ℕ → List ℕ
+short t = take (length t - 1) t
+
 unfoldable pub outOfFrame : List Book
 outOfFrame =
     -- a lent table of the wrong size: one number short, one too long
-    inboxAs (λ t. take 255 t)
+    inboxAs short
     ∷ inboxAs (λ t. t ++ (0 ∷ []))
-    ∷ outboxAs (λ t. take 127 t)
+    ∷ outboxAs short
     ∷ outboxAs (λ t. t ++ (0 ∷ []))
-    ∷ historyAs (λ t. take 5119 t)
+    ∷ historyAs short
     ∷ historyAs (λ t. t ++ (0 ∷ []))
     -- a count above its rows: only the history's can break nothing else, as its rows are not read
     ∷ deskAs (recordsAs 1025)
@@ -119,28 +137,28 @@ outOfFrame =
     ∷ deskAs (lifetimeAs (with 0 (ceiling + 1)))
     ∷ deskAs (settledAs (with 7 (ceiling + 1)))
     -- a member, asset or amount in a used inbox row outside its limit
-    ∷ inboxAs (with 7 0)
-    ∷ inboxAs (with 7 17)
-    ∷ inboxAs (with 5 0)
-    ∷ inboxAs (with 5 9)
-    ∷ inboxAs (with 6 0)
-    ∷ inboxAs (with 6 (ceiling + 1))
+    ∷ depositWith 1 3 0
+    ∷ depositWith 1 3 17
+    ∷ depositWith 1 1 0
+    ∷ depositWith 1 1 9
+    ∷ depositWith 1 2 0
+    ∷ depositWith 1 2 (ceiling + 1)
     -- an asset, amount or payee in a used outbox row outside its limit
-    ∷ outboxAs (with 4 0)
-    ∷ outboxAs (with 4 9)
-    ∷ outboxAs (with 5 0)
-    ∷ outboxAs (with 5 (ceiling + 1))
-    ∷ outboxAs (with 6 0)
-    ∷ outboxAs (with 6 65536)
+    ∷ paymentWith 1 0 0
+    ∷ paymentWith 1 0 9
+    ∷ paymentWith 1 1 0
+    ∷ paymentWith 1 1 (ceiling + 1)
+    ∷ paymentWith 1 2 0
+    ∷ paymentWith 1 2 65536
     -- inbox deposit numbers not strictly rising, below 1 or above the last accepted
-    ∷ inboxAs (with 4 2)
-    ∷ inboxAs (with 4 1)
-    ∷ inboxAs (with 0 0)
-    ∷ inboxAs (with 4 5)
+    ∷ depositWith 1 0 2
+    ∷ depositWith 1 0 1
+    ∷ depositWith 0 0 0
+    ∷ depositWith 1 0 5
     -- outbox nonces not rising by 1 up to the next nonce less 1
-    ∷ outboxAs (with 7 0)
-    ∷ outboxAs (with 7 2)
-    ∷ outboxAs (λ t. with 3 1 (with 7 2 t))
+    ∷ paymentWith 1 3 0
+    ∷ paymentWith 1 3 2
+    ∷ outboxAs (λ t. rowWith paymentShape 0 3 1 (rowWith paymentShape 1 3 2 t))
     ∷ deskAs (nextAs 3)
     ∷ deskAs (nextAs 1)
     -- next nonce above 1,024, with an empty outbox
@@ -160,34 +178,34 @@ tooManyRows = deskAs (unclaimedAs 65) ∷ deskAs (paymentsAs 33) ∷ []
 unfoldable pub badHistories : List Book
 badHistories =
     -- a bad kind
-    historyAs (with 0 0)
-    ∷ historyAs (with 20 5)
+    recordWith 0 0 0
+    ∷ recordWith 4 0 5
     -- a claim: asset, amount, member, deposit number from 1
-    ∷ historyAs (with 26 9)
-    ∷ historyAs (with 27 (ceiling + 1))
-    ∷ historyAs (with 28 17)
-    ∷ historyAs (with 29 0)
-    ∷ historyAs (with 29 4294967296)
+    ∷ recordWith 5 1 9
+    ∷ recordWith 5 2 (ceiling + 1)
+    ∷ recordWith 5 3 17
+    ∷ recordWith 5 4 0
+    ∷ recordWith 5 4 4294967296
     -- a transfer: asset, amount, members, equal members, a sender with less than the amount
-    ∷ historyAs (with 6 0)
-    ∷ historyAs (with 7 0)
-    ∷ historyAs (with 8 0)
-    ∷ historyAs (with 9 17)
-    ∷ historyAs (with 9 2)
-    ∷ historyAs (with 7 501)
-    ∷ historyAs (with 8 6)
+    ∷ recordWith 1 1 0
+    ∷ recordWith 1 2 0
+    ∷ recordWith 1 3 0
+    ∷ recordWith 1 4 17
+    ∷ recordWith 1 4 2
+    ∷ recordWith 1 2 501
+    ∷ recordWith 1 3 6
     -- a withdrawal: asset, amount, member, payee, less than the amount
-    ∷ historyAs (with 11 4)
-    ∷ historyAs (with 12 0)
-    ∷ historyAs (with 13 0)
-    ∷ historyAs (with 14 0)
-    ∷ historyAs (with 14 65536)
-    ∷ historyAs (with 12 451)
+    ∷ recordWith 2 1 4
+    ∷ recordWith 2 2 0
+    ∷ recordWith 2 3 0
+    ∷ recordWith 2 4 0
+    ∷ recordWith 2 4 65536
+    ∷ recordWith 2 2 451
     -- a grant: domain, amount 1, members, equal members, a domain that is another's
-    ∷ historyAs (with 21 0)
-    ∷ historyAs (with 22 2)
-    ∷ historyAs (with 23 0)
-    ∷ historyAs (with 24 17)
-    ∷ historyAs (with 24 1)
-    ∷ historyAs (with 23 3)
+    ∷ recordWith 4 1 0
+    ∷ recordWith 4 2 2
+    ∷ recordWith 4 3 0
+    ∷ recordWith 4 4 17
+    ∷ recordWith 4 4 1
+    ∷ recordWith 4 3 3
     ∷ []

@@ -7,6 +7,7 @@ use lib.ListN.{length, getD, set}
 use Rattle.rules.specs.Types.{Record}
 use Rattle.rules.specs.Limits.{isMember, isAsset, isDomain, isAmount, isPayee, isDepositNumber}
 use Rattle.rules.specs.Lists.{those}
+use Rattle.rules.specs.Tables.{noRecord}
 use Rattle.rules.specs.State.{firstHolders, emptyState}
 use Rattle.rules.specs.Effects.{balance, credit, debit, holder}
 
@@ -41,7 +42,7 @@ counted m a r n = countedAs (kindOf r) m a r n
 -- "going back through the history, one record fewer each time": of the first n records
 unfoldable pub provenance : ℕ → ℕ → ℕ → List Record → ℕ
 provenance m a zero h = 0
-provenance m a (suc n) h = counted m a (getD h n (record { kind = 0; asset = 0; amount = 0; first = 0; second = 0 })) (provenance m a n h)
+provenance m a (suc n) h = counted m a (getD h n noRecord) (provenance m a n h)
 
 abbrev pub provenanceOf : ℕ → ℕ → List Record → ℕ
 provenanceOf m a h = provenance m a (length h) h

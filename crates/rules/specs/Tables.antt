@@ -85,3 +85,13 @@ recordShape =
       flat = λ r. r .kind ∷ r .asset ∷ r .amount ∷ r .first ∷ r .second ∷ [];
       row = λ r. record { kind = getD r 0 0; asset = getD r 1 0; amount = getD r 2 0; first = getD r 3 0; second = getD r 4 0 };
     }
+
+-- one of each kind, to stand where there is none: a row of no numbers, which is read as zeros
+abbrev pub noDeposit : Deposit
+noDeposit = depositShape .row []
+
+abbrev pub noPayment : Payment
+noPayment = paymentShape .row []
+
+abbrev pub noRecord : Record
+noRecord = recordShape .row []

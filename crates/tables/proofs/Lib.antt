@@ -1,4 +1,5 @@
 pub mod Edits
+pub mod Laid
 pub mod Rest
 pub mod Find
 pub mod Once

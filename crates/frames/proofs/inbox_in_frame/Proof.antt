@@ -1,15 +1,17 @@
-use Prim.Native.Nat.{_-_, _≤_}
+use Prim.Native.Nat.{_-_, _*_, _≤_}
 use mathlib.Core.Path.{_≡_, sym, _∙_}
 use native.Mathlib.Omega.{arith}
 use lib.ListN.{length}
 use borrow.Author.Tests.{not-true, not-false}
+use Rattle.rules.specs.Limits.{inboxRows}
+use Rattle.rules.specs.Tables.{depositShape}
 use Rattle.frames.proofs.Frames.{InboxFrom, inbox-size, inbox-count, inbox-none, inbox-row, inbox-fails, inbox-goes, inbox-end}
 use borrow.Author.Needs.{needs}
 use Rattle.frames.proofs.inbox_in_frame.Statement.{statement}
 use Rattle.frames.proofs.inbox_in_frame.Tie as tie
 
 abbrev Inv-loop : tie.InvT-loop
-Inv-loop t n last i₀ before₀ i before = (i ≤ n) × (n ≤ 64) × (length t ≡ 256) × InboxFrom t n last before i
+Inv-loop t n last i₀ before₀ i before = (i ≤ n) × (n ≤ inboxRows) × (length t ≡ inboxRows * depositShape .width) × InboxFrom t n last before i
 
 abbrev μ-loop : tie.MeasureT-loop
 μ-loop t n last i₀ before₀ i before = n - i

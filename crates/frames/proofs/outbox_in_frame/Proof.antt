@@ -1,15 +1,17 @@
-use Prim.Native.Nat.{_+_, _-_, _≤_}
+use Prim.Native.Nat.{_+_, _-_, _*_, _≤_}
 use mathlib.Core.Path.{_≡_, sym, _∙_}
 use native.Mathlib.Omega.{arith}
 use lib.ListN.{length}
 use borrow.Author.Tests.{not-true, not-false}
+use Rattle.rules.specs.Limits.{outboxRows}
+use Rattle.rules.specs.Tables.{paymentShape}
 use Rattle.frames.proofs.Frames.{OutboxFrom, outbox-size, outbox-count, outbox-before, outbox-none, outbox-row, outbox-fails, outbox-goes, outbox-end}
 use borrow.Author.Needs.{needs}
 use Rattle.frames.proofs.outbox_in_frame.Statement.{statement}
 use Rattle.frames.proofs.outbox_in_frame.Tie as tie
 
 abbrev Inv-loop : tie.InvT-loop
-Inv-loop t n next used i₀ due₀ i due = (i ≤ n) × (n ≤ 32) × (length t ≡ 128) × (due + (n - i) ≡ next) × OutboxFrom t n next due i
+Inv-loop t n next used i₀ due₀ i due = (i ≤ n) × (n ≤ outboxRows) × (length t ≡ outboxRows * paymentShape .width) × (due + (n - i) ≡ next) × OutboxFrom t n next due i
 
 abbrev μ-loop : tie.MeasureT-loop
 μ-loop t n next used i₀ due₀ i due = n - i

@@ -3,12 +3,13 @@ use Prim.Native.Nat.{_+_, _*_}
 use mathlib.Core.Path.{sym}
 use native.Mathlib.Omega.{arith}
 use lib.ListN.{List·getD-eq-default}
+use Rattle.rules.specs.Tables.{recordShape}
 use borrow.Author.Needs.{needs}
 use Rattle.records.proofs.number_at.Statement.{statement}
 use Rattle.records.proofs.number_at.Tie as tie
 
 returns : tie.Need-returns
-returns c = sym (List·getD-eq-default (c .before .args .history .now) 0 {n = c .before .args .i * 5 + c .before .args .k} (omega (arith, c .if1 .taken)))
+returns c = sym (List·getD-eq-default (c .before .args .history .now) 0 {n = c .before .args .i * recordShape .width + c .before .args .k} (omega (arith, c .if1 .taken)))
 
 mul-at : tie.Need-mul-at
 mul-at c = search needs
@@ -17,7 +18,7 @@ sub-if2 : tie.Need-sub-if2
 sub-if2 c = search needs
 
 returns-2 : tie.Need-returns-2
-returns-2 c = sym (List·getD-eq-default (c .before .before .args .history .now) 0 {n = c .before .before .args .i * 5 + c .before .before .args .k} (omega (arith, c .before .if1 .left, c .if2 .taken)))
+returns-2 c = sym (List·getD-eq-default (c .before .before .args .history .now) 0 {n = c .before .before .args .i * recordShape .width + c .before .before .args .k} (omega (arith, c .before .if1 .left, c .if2 .taken)))
 
 add-result : tie.Need-add-result
 add-result c = search needs

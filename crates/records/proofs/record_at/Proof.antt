@@ -1,5 +1,6 @@
 -- `record_at`: a row that lies within the table is read there; of any other each number is asked for.
 use lib.Dec.{lit<}
+use Rattle.rules.specs.Tables.{recordShape}
 use Rattle.tables.proofs.Rest.{cell, cell0}
 use borrow.Author.Needs.{needs}
 use Rattle.records.proofs.record_at.Statement.{statement}
@@ -54,7 +55,8 @@ returns : tie.Need-returns
 returns c =
     let t = c .before .before .before .before .before .before .before .args .history .now in
     let i = c .before .before .before .before .before .before .before .args .i in
-    rw (cell0 5 i t (lit< tt), cell 5 i 1 t (lit< tt), cell 5 i 2 t (lit< tt), cell 5 i 3 t (lit< tt), cell 5 i 4 t (lit< tt))
+    let w = recordShape .width in
+    rw (cell0 w i t (lit< tt), cell w i 1 t (lit< tt), cell w i 2 t (lit< tt), cell w i 3 t (lit< tt), cell w i 4 t (lit< tt))
 
 number-at-requires : tie.Need-number-at-requires
 number-at-requires c κs = search needs
@@ -75,7 +77,8 @@ returns-2 : tie.Need-returns-2
 returns-2 c =
     let t = c .before .before .before .before .before .before .before .args .history .now in
     let i = c .before .before .before .before .before .before .before .args .i in
-    rw (cell 5 i 0 t (lit< tt), cell 5 i 1 t (lit< tt), cell 5 i 2 t (lit< tt), cell 5 i 3 t (lit< tt), cell 5 i 4 t (lit< tt), c .before .before .before .before .number-at .ensures, c .before .before .before .number-at2 .ensures, c .before .before .number-at3 .ensures, c .before .number-at4 .ensures, c .number-at5 .ensures)
+    let w = recordShape .width in
+    rw (cell w i 0 t (lit< tt), cell w i 1 t (lit< tt), cell w i 2 t (lit< tt), cell w i 3 t (lit< tt), cell w i 4 t (lit< tt), c .before .before .before .before .number-at .ensures, c .before .before .before .number-at2 .ensures, c .before .before .number-at3 .ensures, c .before .number-at4 .ensures, c .number-at5 .ensures)
 
 pub record-at-spec : {M : Type 1} → statement M
 record-at-spec =

@@ -4,7 +4,8 @@ use mathlib.Core.Bool.{true}
 use native.Mathlib.Omega.{arith}
 use lib.ListN.{length}
 use borrow.Author.Tests.{not-true, not-false}
-use Rattle.rules.specs.Limits.{ceiling}
+use Rattle.rules.specs.Limits.{ceiling, historyRows}
+use Rattle.rules.specs.Tables.{recordShape}
 use Rattle.rules.specs.State.{firstHolders, emptyState}
 use Rattle.rules.specs.History.{fits, standingFrom, Standing as Replayed}
 use Rattle.records.specs.Test.{standing, allUpTo}
@@ -14,7 +15,7 @@ use Rattle.records.proofs.frame.history_in_frame.Statement.{statement}
 use Rattle.records.proofs.frame.history_in_frame.Tie as tie
 
 abbrev Inv-loop : tie.InvT-loop
-Inv-loop history records balances₀ holders₀ i₀ balances holders i = (i ≤ records) × (records ≤ 1024) × (records * 5 ≤ length history) × (allUpTo (i * ceiling) balances ≡ true) × HistoryFrom history records (standing balances holders) i
+Inv-loop history records balances₀ holders₀ i₀ balances holders i = (i ≤ records) × (records ≤ historyRows) × (records * recordShape .width ≤ length history) × (allUpTo (i * ceiling) balances ≡ true) × HistoryFrom history records (standing balances holders) i
 
 abbrev μ-loop : tie.MeasureT-loop
 μ-loop history records balances₀ holders₀ i₀ balances holders i = records - i
