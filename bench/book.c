@@ -1,4 +1,4 @@
-/* The book runner of document 01, plainly in C: standard input to standard output.
+/* The book runner of documents 01 and 02, plainly in C: standard input to standard output.
    It is what the program `book` is compared with (bench/README.md). */
 #include <stdint.h>
 #include <string.h>
@@ -42,6 +42,9 @@ static size_t unclaimed, payments, in_flight, records;
 static Payment sent;
 static Lot pieces[HISTORY_ROWS];
 static size_t piece_count;
+
+/* What a malformed line answers: the field where reading failed. The word is field 0. */
+static size_t failed_field;
 
 /* The lots of a replay. Those of one member and asset, in this order, are the member's line. */
 static Lot lots[HISTORY_ROWS];
@@ -416,24 +419,32 @@ static const char *read_number(const char *at, const char *end, u64 *number)
     return at;
 }
 
+static Form fails_at(size_t field)
+{
+    failed_field = field;
+    return NO_LINE;
+}
+
+/* Of an over-long line the first 121 bytes are read. All fields of a call have at most 92 bytes, so a field
+   fails among these, or there is one too many. */
 static Form read_line(const char *at, const char *end, u64 field[4])
 {
     if (end - at > LINE_BYTES)
-        return NO_LINE;
+        end = at + LINE_BYTES + 1;
     const char *word = at;
     while (at < end && *at != '\t')
         at++;
     Form f = form_of(word, (size_t)(at - word));
     if (f == NO_LINE)
-        return NO_LINE;
+        return fails_at(0);
     for (size_t i = 0; i < forms[f].fields; i++) {
         if (at == end)
-            return NO_LINE;
+            return fails_at(i + 1);
         at = read_number(at + 1, end, &field[i]);
         if (!at)
-            return NO_LINE;
+            return fails_at(i + 1);
     }
-    return at == end ? f : NO_LINE;
+    return at == end ? f : fails_at(forms[f].fields + 1);
 }
 
 static Reply step(Form f, const u64 n[4])
@@ -515,6 +526,8 @@ static void put_reply(u64 line, Reply r, Form f)
     room_for(6);
     put_number(line, '\t');
     put_number(r, '\t');
+    if (r == MALFORMED)
+        put_number(failed_field, '\t');
     if (r == DONE && f == SEND_LINE)
         put_sent();
     if (r == DONE && f == TRACE_LINE)
@@ -536,20 +549,23 @@ static void count_reply(Reply r, Form f)
         other++;
 }
 
-static void answer_line(const char *line, const char *end)
+/* Of a line that is not finished and all of whose fields read, their count with the word is told. */
+static void answer_line(const char *line, const char *end, int finished)
 {
     u64 field[4];
     Form f = read_line(line, end, field);
+    if (!finished && f != NO_LINE)
+        f = fails_at(forms[f].fields + 1);
     count_reply(step(f, field), f);
 }
 
 /* Answers the whole lines among the first so many bytes; how many bytes are left over. Of a line
-   without end no more than 121 bytes are kept: it is Malformed however it goes on. */
+   without end no more than 121 bytes are kept: no more are read. */
 static size_t answer_lines(size_t bytes)
 {
     const char *at = in, *end = in + bytes, *feed;
     while (line_number < SESSION_LINES && (feed = memchr(at, '\n', (size_t)(end - at)))) {
-        answer_line(at, feed);
+        answer_line(at, feed, 1);
         at = feed + 1;
     }
     size_t left = (size_t)(end - at);
@@ -579,7 +595,7 @@ int main(void)
         flush();
     }
     if (held > 0 && line_number < SESSION_LINES)
-        count_reply(MALFORMED, NO_LINE);
+        answer_line(in, in + held, 0);
     put_end();
     flush();
     return 0;

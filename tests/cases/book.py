@@ -71,13 +71,99 @@ def malformed():
     return b"\n".join(kinds) + b"\n"
 
 
+# A call of each word, all of whose fields read.
+GOOD = [b"deposit\t1\t3\t500\t2", b"claim\t2\t1\t3\t500", b"transfer\t2\t4\t3\t200", b"withdraw\t4\t3\t350\t77", b"send",
+        b"settle\t0", b"grant\t1\t2\t5", b"sign\t1\t5", b"trace\t0"]
+
+
+def with_field(line, place, field):
+    fields = line.split(b"\t")
+    return b"\t".join(fields[:place] + [field] + fields[place + 1:])
+
+
+def each_place():
+    """Each field of each call absent, no number, the largest number and the next, 20 and 21 digits; and again
+    with a field at fault after it."""
+    kinds = [b"", b"2x0", b"02", b"-1", b"18446744073709551615", b"18446744073709551616", b"10000000000000000000",
+             b"99999999999999999999", b"100000000000000000000"]
+    for line in GOOD:
+        fields = line.split(b"\t")
+        for place in range(1, len(fields)):
+            yield b"\t".join(fields[:place])
+            for kind in kinds:
+                yield with_field(line, place, kind)
+                yield with_field(line, place, kind) + b"\tx"
+
+
+def each_word():
+    """The words that are none, and tabs and fields too many at each call."""
+    for line in GOOD:
+        word, *fields = line.split(b"\t")
+        for wrong in (word.upper(), word[:-1], word + b"s", word + b" ", b"pay", b""):
+            yield b"\t".join([wrong, *fields])
+        for end in (b"", b"\t", b"\t\t", b"\t1", b"\tx", b"\t1" * 30):
+            yield line + end
+        for place in range(len(fields)):  # two tabs
+            yield b"\t".join([word, *fields[:place], b"", *fields[place:]])
+
+
+def long_starts():
+    """What a long line begins with: a word that is none, a field at fault, or what reads up to any field of a call."""
+    yield from (b"", b"x", b"pay\t", b"\t", b"transfer\t02\t", b"transfer\t2\tx\t3\t", b"deposit\t1\t\t")
+    for line in GOOD:
+        fields = line.split(b"\t")
+        yield line
+        yield from (b"\t".join(fields[:count]) + b"\t" for count in range(1, len(fields) + 1))
+
+
+def each_length():
+    """Lines of about 120 bytes and more: a long word or field, fields and tabs without end, and what is at fault
+    only after a long field."""
+    for start in long_starts():
+        for fill in (b"7", b"0", b"\t", b"\t1"):
+            yield from ((start + fill * length)[:length] for length in (119, 120, 121, 122, 130))
+    for length in (120, 121, 122, 130, 5_000):
+        yield from (b"x" * length, b"settle\t" + b"7" * (length - 7), (b"sign\t1\t5" + b"\t5" * length)[:length])
+        for end in (b"\t", b"\tx", b"\t02\t1"):
+            yield b"settle\t" + b"7" * (length - 7 - len(end)) + end
+
+
+def named_fields():
+    """Lines with a field at fault, of every kind, and a call after each."""
+    kinds = [b"deposit\t3\t3\t\t2", b"pay\t2\t4\t3\t200", b"", b"SEND", b"\tsend", b"deposit\t1\t3", b"transfer\t2\t4\t3\t2x0",
+             b"transfer\t2\t4\t3\t200\t1", b"transfer\t2\t4\t3\t200\t", b"send\t", b"transfer\t02\t4\t3\t200\t1",
+             b"pay\t" + b"7" * 126, b"deposit\t1\t" + b"7" * 130]
+    kinds += [*each_place(), *each_word(), *each_length()]
+    return b"".join(kind + b"\nsign\t1\t5\n" for kind in kinds)
+
+
+def unfinished():
+    """Sessions that end in an unfinished line: each call with all its fields, with the last one missing, with one
+    too many; other fields at fault; and lines of 120 bytes and more."""
+    ends = {}
+    for line in GOOD:
+        word, *fields = line.split(b"\t")
+        name = word.decode()
+        ends[name] = line
+        ends[f"{name}_too_many"] = line + b"\t1"
+        if fields:
+            ends[f"{name}_missing"] = b"\t".join([word, *fields[:-1]])
+    ends.update({
+        "no_word": b"sen", "tab": b"\t", "tab_last": b"send\t", "empty_last": b"sign\t1\t", "not_the_last": b"transfer\t02\t4\t3\tx",
+        "120_bytes": b"settle\t" + b"9" * 113, "121_bytes": b"settle\t" + b"9" * 114, "long_word": b"x" * 130,
+        "long_field": b"deposit\t1\t" + b"7" * 130, "long_too_many": b"grant\t1\t2\t5" + b"\t1" * 60,
+        "over_a_read": b"sign\t1\t" + b"9" * 70_000,
+    })
+    return {f"unfinished_{name}": (lambda end=end: b"sign\t1\t5\n" + end) for name, end in ends.items()}
+
+
 def seeded(seed):
     return subprocess.run([sys.executable, os.path.join(REFERENCE, "sessions.py"), str(seed), "4000"], check=True, stdout=subprocess.PIPE).stdout
 
 
 CASES = {
-    "first": first, "empty": lambda: b"", "limits": limits, "malformed": malformed,
-    "unfinished": lambda: b"deposit\t1\t3\t500\t2\nsign\t1\t5\nclaim\t2\t1\t3\t500",
+    "first": first, "empty": lambda: b"", "limits": limits, "malformed": malformed, "named_fields": named_fields,
+    "unfinished": lambda: b"deposit\t1\t3\t500\t2\nsign\t1\t5\nclaim\t2\t1\t3\t500", **unfinished(),
     "most_lines": lambda: b"\n" * 100_000, "too_many_lines": lambda: b"sign\t1\t5\n" * 100_001,
     **{f"seed{seed}": (lambda seed=seed: seeded(seed)) for seed in range(1, 11)},
 }

@@ -1,10 +1,11 @@
 #!/usr/bin/env python3
-"""Reference book runner, written from document 01 alone.
+"""Reference book runner, written from documents 01 and 02 alone.
 
     python3 book.py < session.tsv > expected.tsv
 
-Each rule stands next to the sentence of document 01 that asks for it (in
-quotes).  Only Python's standard library is used.
+Each rule stands next to the sentence that asks for it (in quotes): of document
+01, or of the request of document 02 that is named.  Only Python's standard
+library is used.
 """
 import re
 import sys
@@ -295,24 +296,35 @@ FIELDS = {b"deposit": 4, b"claim": 4, b"transfer": 4, b"withdraw": 4, b"send": 0
 NUMBER = re.compile(rb"0|[1-9][0-9]{0,19}")
 
 
-def read_line(line):
-    """One of the nine calls as (word, number, ...), or None for Malformed."""
-    # "each line ends with one line feed and has at most 120 bytes before it";
-    # "An unfinished last line is Malformed."
-    if not line.endswith(b"\n") or len(line) - 1 > LINE_BYTES:
-        return None
-    # "Fields are parted by one tab."
-    word, *fields = line[:-1].split(b"\t")
-    if FIELDS.get(word) != len(fields):
-        return None
+def is_number(field):
     # "Each field is a number or the line is refused: ..., at most
     # 18,446,744,073,709,551,615."
-    if not all(NUMBER.fullmatch(field) for field in fields):
-        return None
-    numbers = [int(field) for field in fields]
-    if any(number > LAST_U64 for number in numbers):
-        return None
-    return (word.decode(), *numbers)
+    return NUMBER.fullmatch(field) is not None and int(field) <= LAST_U64
+
+
+def read_line(line):
+    """(call, None) for one of the nine calls, itself (word, number, ...);
+    (None, field) for Malformed, with the number of the field that is at fault."""
+    # "Fields are parted by one tab."
+    word, *fields = line.removesuffix(b"\n").split(b"\t")
+    # Request 01: "the word is field 0".
+    if word not in FIELDS:
+        return None, 0
+    # Request 01: "the field where reading failed".  A field that is absent has
+    # the number that it would have.
+    for place in range(1, FIELDS[word] + 1):
+        if place > len(fields) or not is_number(fields[place - 1]):
+            return None, place
+    # Request 01: "one too many the next number".
+    if len(fields) > FIELDS[word]:
+        return None, FIELDS[word] + 1
+    # "each line ends with one line feed and has at most 120 bytes before it";
+    # "An unfinished last line is Malformed."  Request 01: "An over-long or
+    # unfinished line gives the first field that does not read, or, if all read,
+    # their count with the word."
+    if not line.endswith(b"\n") or len(line) - 1 > LINE_BYTES:
+        return None, len([word, *fields])
+    return (word.decode(), *map(int, fields)), None
 
 
 def step(book, call):
@@ -335,8 +347,9 @@ def run(source, sink):
         line = source.readline()
         if not line:
             break
-        call = read_line(line)
-        reply, values = step(book, call) if call else (MALFORMED, [])
+        call, field = read_line(line)
+        # Request 01: "The runner adds the field number after reply 1."
+        reply, values = step(book, call) if call else (MALFORMED, [field])
         if reply == DONE:
             done += 1
         else:

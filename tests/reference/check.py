@@ -1,7 +1,8 @@
 #!/usr/bin/env python3
 """Self-checks of the reference: python3 check.py
 
-Every check asserts something that document 01 says; the last line counts them.
+Every check asserts something that document 01 says, or a request of document 02;
+the last line counts them.
 """
 import io
 import random
@@ -11,8 +12,8 @@ from collections import Counter, defaultdict, deque
 from pathlib import Path
 
 from book import (
-    ASSETS, CEILING, CLAIM, DONE, GRANT, LAST_NUMBER, LAST_U64, MEMBERS, TRANSFER,
-    WITHDRAWAL, Book, provenance_of, read_line, run, step)
+    ASSETS, CEILING, CLAIM, DONE, FIELDS, GRANT, LAST_NUMBER, LAST_U64, MEMBERS,
+    TRANSFER, WITHDRAWAL, Book, provenance_of, read_line, run, step)
 from frame import (
     FlatBook, call_on_book, frame_fault, history_fault, in_frame, load, rows, store,
     trace_on_book)
@@ -38,7 +39,7 @@ def output_of(data):
 
 
 def call_of(text):
-    call = read_line(text.replace(" ", "\t").encode() + b"\n")
+    call, _field = read_line(text.replace(" ", "\t").encode() + b"\n")
     assert call, text
     return call
 
@@ -54,7 +55,7 @@ def replies_on(book, *texts):
 
 def calls_of(seed, lines):
     """The calls of a session, without its malformed lines."""
-    return [call for line in io.BytesIO(session(seed, lines)) if (call := read_line(line))]
+    return [call for line in io.BytesIO(session(seed, lines)) if (call := read_line(line)[0])]
 
 
 def reached(*texts):
@@ -94,7 +95,7 @@ settle 1                | 9 19
 settle 0                | 10 0
 trace 0                 | 11 0 2 1 200 2 150
 deposit 4 3 10 2        | 12 10
-deposit 3 3 (empty) 2   | 13 1
+deposit 3 3 (empty) 2   | 13 1 3
                         | end 9 4
 """
 
@@ -236,27 +237,6 @@ def check_reader():
     ]
     for given, expected in read:
         check(f"reads {given}", output_of(given), expected)
-    malformed = [
-        b"settle\t18446744073709551616", b"settle\t99999999999999999999",
-        b"settle\t100000000000000000000", b"settle\t00", b"settle\t01", b"settle\t+1",
-        b"settle\t-1", b"settle\t", b"settle", b"settle\t1\t", b"settle\t1\t1",
-        b"settle\t\t1", b"settle 1", b"\tsettle\t1", b"settle\t1 ", b"settle\t 1",
-        b"settle\t1\r", b"settle\t1\0", b"settle\t\0", b"settle\t1\xff", b"settle\t1.0",
-        b"settle\t1_0", b"settle\t\xd9\xa3", b"Settle\t1", b"settled\t1", b"", b"\r",
-        b"\0", b"\xff", b"\t", b"send\t", b"send\t0", b"send ", b"end\t0\t0", b"9" * 120,
-        b"9" * 121, b"9" * 122, b"settle\t" + b"0" * 113, b"settle\t" + b"0" * 114,
-        b"x" * 100_000,
-    ]
-    for line in malformed:
-        check(f"malformed {line[:40]}", output_of(line + b"\nsign\t1\t5\n"),
-              b"1\t1\n2\t0\nend\t1\t1\n")
-    rng = random.Random(1)
-    for kind, make in MALFORMED_KINDS.items():
-        lines = [make(rng, ("transfer", 1, 2, 3, 4)) for _ in range(20)]
-        check(f"kind {kind}", [read_line(line + b"\n") for line in lines], [None] * 20)
-    for last in (b"send", b"sign\t1\t5", b"x", b"\t", b"\0", b"9" * 500):
-        check(f"unfinished {last[:10]}", output_of(b"sign\t1\t5\n" + last),
-              b"1\t0\n2\t1\nend\t1\t1\n")
     for lines, extra in ((99_999, b"send"), (100_000, b""), (100_000, b"send"),
                          (100_000, b"sign\t1\t5\n"), (100_001, b"")):
         out = output_of(b"sign\t1\t5\n" * lines + extra).splitlines()
@@ -264,6 +244,75 @@ def check_reader():
         over = 1 if lines == 99_999 else 0  # the unfinished line, number 100,000
         check(f"{lines} lines and {extra}", (len(out), out[-1]),
               (answered + over + 1, b"end\t%d\t%d" % (answered, over)))
+
+
+# Lines that do not read, by the field that is told: the word is field 0.
+FIELD_AT_FAULT = {
+    0: [b"", b"\r", b"\0", b"\xff", b"\t", b"\tsettle\t1", b" send", b"send ", b"settle 1", b"Settle\t1",
+        b"SEND", b"sen", b"settled\t1", b"pay\t2\t4\t3\t200", b"end\t0\t0", b"settle\0\t1",
+        b"9" * 120, b"9" * 121, b"9" * 122, b"x" * 130, b"x" * 100_000, b"x" * 121 + b"\t02",
+        b"deposits\t" + b"9" * 130, b"\t" * 121],
+    1: [b"settle", b"settle\t", b"settle\t\t1", b"settle\t00", b"settle\t01", b"settle\t+1", b"settle\t-1",
+        b"settle\t 1", b"settle\t1 ", b"settle\t1\r", b"settle\t1\0", b"settle\t\0", b"settle\t1\xff",
+        b"settle\t1.0", b"settle\t1_0", b"settle\t\xd9\xa3", b"settle\t18446744073709551616",
+        b"settle\t99999999999999999999", b"settle\t100000000000000000000",
+        b"settle\t" + b"0" * 113, b"settle\t" + b"0" * 114, b"settle\t" + b"9" * 114,
+        b"send\t", b"send\t0", b"send\t\t", b"send" + b"\t1" * 30, b"send" + b"\t1" * 60,
+        b"transfer\t02\t4\t3\t200\t1", b"transfer\t\t\t\t", b"deposit", b"deposit\t" * 20],
+    2: [b"settle\t1\t", b"settle\t1\t1", b"settle\t1\tx", b"settle\t1\t" + b"9" * 130,
+        b"sign\t1", b"sign\t1\t", b"sign\t1\t05\t5", b"grant\t1\t\t2\t5",
+        b"deposit\t1\t" + b"7" * 130, b"deposit\t1\t" + b"7" * 5_000 + b"\tx"],
+    3: [b"deposit\t1\t3", b"deposit\t1\t3\t", b"deposit\t3\t3\t\t2", b"deposit\t1\t3\t\t",
+        b"sign\t1\t5\t", b"sign\t1\t5\t5", b"sign\t1\t5" + b"\t" * 120],
+    4: [b"transfer\t2\t4\t3\t2x0", b"transfer\t2\t4\t3", b"transfer\t2\t4\t3\t",
+        b"transfer\t2\t4\t3\t2x0\t1", b"grant\t1\t2\t5\t1", b"claim\t2\t1\t3\t" + b"5" * 120],
+    5: [b"transfer\t2\t4\t3\t200\t1", b"transfer\t2\t4\t3\t200\t", b"transfer\t2\t4\t3\t200\tx",
+        b"transfer\t2\t4\t3\t200" + b"\t1" * 30, b"withdraw" + b"\t18446744073709551615" * 5],
+}
+
+# Unfinished lines all of whose fields read: "their count with the word".
+UNFINISHED = [(b"send", 1), (b"settle\t0", 2), (b"trace\t0", 2), (b"sign\t1\t5", 3), (b"grant\t1\t2\t5", 4),
+              (b"deposit\t1\t3\t500\t2", 5), (b"claim\t2\t1\t3\t500", 5), (b"transfer\t2\t4\t3\t200", 5),
+              (b"withdraw\t4\t3\t350\t77", 5)]
+
+
+def check_field_at_fault():
+    for field, lines in FIELD_AT_FAULT.items():
+        for line in lines:
+            check(f"malformed {line[:40]}", output_of(line + b"\nsign\t1\t5\n"),
+                  b"1\t1\t%d\n2\t0\nend\t1\t1\n" % field)
+            if line:  # without a line feed there is no blank line
+                check(f"malformed and unfinished {line[:40]}", output_of(b"sign\t1\t5\n" + line),
+                      b"1\t0\n2\t1\t%d\nend\t1\t1\n" % field)
+    for line, count in UNFINISHED:
+        check(f"unfinished {line}", output_of(b"sign\t1\t5\n" + line),
+              b"1\t0\n2\t1\t%d\nend\t1\t1\n" % count)
+        check(f"finished {line}", read_line(line + b"\n")[1], None)
+    check("every word unfinished", {line.split(b"\t")[0] for line, _ in UNFINISHED}, set(FIELDS))
+
+
+def with_good_numbers(line, kept):
+    """The first so many fields of a line, the word among them, then a 1 for each that is missing."""
+    fields = line.split(b"\t")[:kept]
+    return b"\t".join(fields + [b"1"] * (1 + FIELDS[fields[0]] - len(fields)))
+
+
+def check_kinds():
+    """No kind of malformed line reads; what stands before the field told is not at fault, and the field is."""
+    rng = random.Random(1)
+    for kind, make in MALFORMED_KINDS.items():
+        lines = [make(rng, ("transfer", 1, 2, 3, 4)) for _ in range(20)]
+        told = [read_line(line + b"\n") for line in lines]
+        check(f"kind {kind}", [call for call, _ in told], [None] * 20)
+        for line, (_, field) in zip(lines, told):
+            fields = line.split(b"\t")
+            check(f"kind {kind}: field 0", field == 0, fields[0] not in FIELDS)
+            if field == 0:
+                continue
+            check(f"kind {kind}: mended", read_line(with_good_numbers(line, field) + b"\n")[1], None)
+            if field < len(fields):
+                check(f"kind {kind}: not mended",
+                      read_line(with_good_numbers(line, field + 1) + b"\n")[1], field)
 
 
 # --------------------------------------------------------------------- the trace
@@ -423,7 +472,7 @@ def check_frame_of_reached_books(seeds, lines):
 
 def check_coverage():
     reached_replies, malformed = cover(range(1, 13), 3_000)
-    check("malformed lines made", malformed > 0)
+    check("fields at fault", sorted(malformed), [0, 1, 2, 3, 4, 5])
     for word, possible in POSSIBLE.items():
         check(f"replies of {word}", sorted(reached_replies[word]), possible)
     check("same seed, same session", session(7, 500), session(7, 500))
@@ -711,6 +760,8 @@ if __name__ == "__main__":
     check_deposit_numbers()
     check_full_tables()
     check_reader()
+    check_field_at_fault()
+    check_kinds()
     check_trace_by_hand()
     check_assets_have_lines_of_their_own()
     check_seeded_sessions(range(1, 21), 3_000)

@@ -7,7 +7,8 @@
 The same seed and length give the same bytes.  Most lines are calls that make
 sense in the book reached so far, so that deep states come up; some are calls
 with one wrong field, some are malformed.  --cover shows which reply numbers the
-sessions of a range of seeds reach, call word by call word.
+sessions of a range of seeds reach, call word by call word, and which fields the
+malformed lines fail at.
 """
 import io
 import random
@@ -166,7 +167,7 @@ class Maker:
 
     def malformed(self, call):
         line = MALFORMED_KINDS[self.rng.choice(list(MALFORMED_KINDS))](self.rng, call)
-        assert read_line(line + b"\n") is None, line
+        assert read_line(line + b"\n")[0] is None, line
         return line
 
 
@@ -246,20 +247,22 @@ def session(seed, lines):
     maker = Maker(seed)
     made = [maker.line() + b"\n" for _ in range(lines)]
     if made and seed % 4 == 3:
-        made[-1] = maker.rng.choice((b"send", b"sen", b"sign\t1\t", b"settle\t0", b"\0"))
+        made[-1] = maker.rng.choice((b"send", b"sen", b"sign\t1\t", b"settle\t0", b"\0",
+                                     b"trace\t0\t0", b"grant\t1\t" + b"9" * 130))
     return b"".join(made)
 
 
 def cover(seeds, lines):
-    """Per word, how often each reply number was reached over the seeds."""
+    """Per word, how often each reply number was reached over the seeds; and how
+    often each field was the one for which a line is malformed."""
     reached = {word: Counter() for word in POSSIBLE}
-    malformed = 0
+    malformed = Counter()
     for seed in seeds:
         book = Book()
         for line in io.BytesIO(session(seed, lines)):  # parts at line feeds only
-            call = read_line(line)
+            call, field = read_line(line)
             if call is None:
-                malformed += 1
+                malformed[field] += 1
             else:
                 reached[call[0]][step(book, call)[0]] += 1
     return reached, malformed
@@ -270,7 +273,8 @@ def main(arguments):
         first, _, last = arguments[1].partition("-")
         seeds = range(int(first), int(last or first) + 1)
         reached, malformed = cover(seeds, int(arguments[2]))
-        print(f"malformed lines (reply 1): {malformed}")
+        told = "  ".join(f"{field}:{malformed[field]}" for field in sorted(malformed))
+        print(f"malformed lines (reply 1), by field: {told}")
         for word, counts in reached.items():
             told = "  ".join(f"{reply}:{counts[reply]}" for reply in POSSIBLE[word])
             missing = [reply for reply in POSSIBLE[word] if not counts[reply]]

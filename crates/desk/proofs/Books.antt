@@ -16,7 +16,7 @@ use Rattle.rules.specs.Limits.{ceiling, historyRows, within, isMember, isAsset}
 use Rattle.rules.specs.Lists.{all}
 use Rattle.rules.specs.Tables.{lay, recordShape}
 use Rattle.rules.specs.State.{Book, historyOf, view}
-use Rattle.rules.specs.Replies.{numberOf, told, plain, smallest}
+use Rattle.rules.specs.Replies.{toldRefusal, told, plain, smallest}
 use Rattle.rules.specs.Refusals.{table}
 use Rattle.rules.specs.Effects.{cell, balance}
 use Rattle.rules.specs.Frame.{upToCeiling, inFrame}
@@ -36,7 +36,7 @@ use Rattle.desk.proofs.Chains.{done-number, refused-number}
 -- a call's answer, its table's behind the frame's test, tells the number that the rules give
 pub frame-told : (b : Book) (c : Call) (a found : Answer) → frameTest b c ≡ badBook b → (inFrame b ≡ true → told found ≡ plain (smallest (table (view b) c)))
     → a ≡ cond (not (inFrame b)) (Answer.Refused Refusal.BadBook) found → told a ≡ plain (replyNumber b c)
-unfolding numberOf told
+unfolding toldRefusal told
 frame-told b c a found e h p = go (inFrame b) refl p
   where
     go : (t : Bool) → inFrame b ≡ t → a ≡ cond (not t) (Answer.Refused Refusal.BadBook) found → told a ≡ plain (replyNumber b c)

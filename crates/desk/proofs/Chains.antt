@@ -9,10 +9,10 @@ use lib.Dec.{leb}
 use Rattle.rules.specs.declared.answers.Refusal.{Refusal}
 use Rattle.rules.specs.declared.answers.Answer.{Answer}
 use Rattle.rules.specs.Lists.{all}
-use Rattle.rules.specs.Replies.{Reply, numberOf, told, refuse, smaller, smallest, plain}
+use Rattle.rules.specs.Replies.{Reply, toldRefusal, numberOf, told, refuse, smaller, smallest, plain}
 use borrow.Author.Tests.{leb-true}
 use Rattle.rules.proofs.Tests.{both}
-use Rattle.rules.proofs.Told.{refusal-number}
+use Rattle.rules.proofs.Told.{refusal-number, Telling, telling}
 use Rattle.desk.specs.Parts.{isDone}
 
 -- an entry of a chain: the refusal, and whether it applies
@@ -32,9 +32,10 @@ entry e = refuse (e .0) (e .1)
 unfoldable pub notBelow : ℕ → List Entry → Bool
 notBelow n es = all (λ e. leb n (numberOf (e .0))) es
 
+-- the numbers rise, and the first is above Malformed's, which alone has a value after it
 abbrev pub rising : List Entry → Bool
 rising [] = true
-rising (e ∷ es) = notBelow (numberOf (e .0)) es && rising es
+rising (e ∷ es) = leb 2 (numberOf (e .0)) && (notBelow (numberOf (e .0)) es && rising es)
 
 -- 0, or not below n
 Least : ℕ → ℕ → Type 0
@@ -62,15 +63,24 @@ unfolding Least
 smaller-first n zero l = refl
 smaller-first n (suc m) l = omega (arith, l (λ e. omega arith))
 
+-- a refusal other than Malformed tells its number alone
+told-alone : {r : Refusal} → Telling r → 2 ≤ numberOf r → toldRefusal r ≡ plain (numberOf r)
+unfolding toldRefusal
+told-alone (Telling.field k) h = absurd (omega arith)
+told-alone (Telling.alone e) h = e
+
 pub chain-told : (es : List Entry) → rising es ≡ true → told (chain es) ≡ plain (smallest (map entry es))
 unfolding told smallest
 chain-told [] h = refl
-chain-told (e ∷ es) h = go (e .1) refl (chain-told es (both (notBelow (numberOf (e .0)) es) (rising es) h .1))
+chain-told (e ∷ es) h =
+    let (above, later) = both (leb 2 (numberOf (e .0))) (notBelow (numberOf (e .0)) es && rising es) h in
+    let (least, rises) = both (notBelow (numberOf (e .0)) es) (rising es) later in
+    go above least (e .1) refl (chain-told es rises)
   where
-    go : (t : Bool) → e .1 ≡ t → told (chain es) ≡ plain (smallest (map entry es))
+    go : leb 2 (numberOf (e .0)) ≡ true → notBelow (numberOf (e .0)) es ≡ true → (t : Bool) → e .1 ≡ t → told (chain es) ≡ plain (smallest (map entry es))
         → told (cond (e .1) (Answer.Refused (e .0)) (chain es)) ≡ plain (cond (e .1) (smaller (numberOf (e .0)) (smallest (map entry es))) (smallest (map entry es)))
-    go true p ih = rw (p, smaller-first (numberOf (e .0)) (smallest (map entry es)) (smallest-least (numberOf (e .0)) es (both (notBelow (numberOf (e .0)) es) (rising es) h .0)))
-    go false p ih = rw p ih
+    go above least true p ih = rw (p, smaller-first (numberOf (e .0)) (smallest (map entry es)) (smallest-least (numberOf (e .0)) es least)) (told-alone (telling (e .0)) (leb-true 2 (numberOf (e .0)) above))
+    go above least false p ih = rw p ih
 
 -- what is done was not refused, and what was refused was not done
 pub done-number : (a : Answer) (n : ℕ) → told a ≡ plain n → isDone a ≡ true → n ≡ 0

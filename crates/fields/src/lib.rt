@@ -1,15 +1,20 @@
-// The field reader. Fields are parted by one tab; each is a number or the line is refused.
-use rules::calls::Field;
+// The field reader. Fields are parted by one tab; each is a number, or it is told by its own number that it is none.
 ghost use mathlib.Core.Path.{_≡_};
 ghost use lib.ListN.{drop};
 ghost use Rattle.rules.specs.Lines.{fieldEnd, afterField, leadingZero};
 ghost use Rattle.fields.specs.Reading.{oneMore, isShaped, digitsRead, nextRead};
 
-// What the field reader answers: the field's number and where the part after the field begins, or that it
-// is no number.
+// What the field reader answers: the field's number and where the part after the field begins, or which field it
+// is that does not read.
 pub enum ReadField {
     Number(u64, usize),
-    NotANumber,
+    FailsAt(u64),
+}
+
+// What a value grows to with one digit more: a value that a field can hold, or none.
+enum Grown {
+    To(u64),
+    NoNumber,
 }
 
 // Where the first field ends: at the first tab, or at the end of the line.
@@ -45,26 +50,27 @@ pub fn after_field(s: &[u8], at: usize) -> &[u8]
 }
 
 // The number of the field that follows in a part that was handed back: one pass from its tab, which is
-// passed over, to the field's end.
-pub fn next_field(s: &[u8]) -> ReadField
-    ensures { λ r. ⌜ r ≡ nextRead (now (s .entry)) ⌝ }
+// passed over, to the field's end. It is field k of the line: "The field reader is to give the field where
+// reading failed."
+pub fn next_field(s: &[u8], k: u64) -> ReadField
+    ensures { λ r. ⌜ r ≡ nextRead k (now (s .entry)) ⌝ }
 {
     if s.len() == 0 {
-        return ReadField::NotANumber;
+        return ReadField::FailsAt(k);
     }
-    let ReadField::Number(n, end) = digits(s) else {
-        return ReadField::NotANumber;
+    let ReadField::Number(n, end) = digits(s, k) else {
+        return ReadField::FailsAt(k);
     };
     if is_shaped(&s[1..end]) {
         return ReadField::Number(n, end);
     }
-    ReadField::NotANumber
+    ReadField::FailsAt(k)
 }
 
 // The value of the digits after a tab, up to the next tab or the end of the line; another byte among them,
 // or a value that no field can hold, and there is none.
-fn digits(s: &[u8]) -> ReadField
-    ensures { λ r. ⌜ r ≡ digitsRead (now (s .entry)) ⌝ }
+fn digits(s: &[u8], k: u64) -> ReadField
+    ensures { λ r. ⌜ r ≡ digitsRead k (now (s .entry)) ⌝ }
 {
     let mut v: u64 = 0;
     let mut i: usize = 1;
@@ -72,8 +78,8 @@ fn digits(s: &[u8]) -> ReadField
         if s[i] == 9 {
             return ReadField::Number(v, i);
         }
-        let Field::Number(n) = one_more(v, s[i]) else {
-            return ReadField::NotANumber;
+        let Grown::To(n) = one_more(v, s[i]) else {
+            return ReadField::FailsAt(k);
         };
         v = n;
         i += 1;
@@ -83,26 +89,26 @@ fn digits(s: &[u8]) -> ReadField
 
 // One digit more, tested before the value is made, so that nothing wraps: a tenth of
 // 18,446,744,073,709,551,615 may be followed by digits up to 5, what is below it by any.
-fn one_more(v: u64, b: u8) -> Field
+fn one_more(v: u64, b: u8) -> Grown
     ensures { λ r. ⌜ r ≡ oneMore v b ⌝ }
 {
     if b < 48 {
-        return Field::NotANumber;
+        return Grown::NoNumber;
     }
     if 57 < b {
-        return Field::NotANumber;
+        return Grown::NoNumber;
     }
     let d = (b - 48) as u64;
     if v < 1_844_674_407_370_955_161 {
-        return Field::Number(v * 10 + d);
+        return Grown::To(v * 10 + d);
     }
     if 1_844_674_407_370_955_161 < v {
-        return Field::NotANumber;
+        return Grown::NoNumber;
     }
     if 5 < d {
-        return Field::NotANumber;
+        return Grown::NoNumber;
     }
-    Field::Number(18_446_744_073_709_551_610 + d)
+    Grown::To(18_446_744_073_709_551_610 + d)
 }
 
 // "1 to 20 decimal digits, no sign, no leading zero except `0` itself", of a field that has nothing but

@@ -16,7 +16,7 @@ use Rattle.rules.specs.Limits.{historyRows}
 use Rattle.rules.specs.Lists.{all}
 use Rattle.rules.specs.Tables.{rowsOf, recordShape}
 use Rattle.rules.specs.State.{State, Book, view, historyOf}
-use Rattle.rules.specs.Replies.{numberOf, told, plain, smallest}
+use Rattle.rules.specs.Replies.{toldRefusal, told, plain, smallest}
 use Rattle.rules.specs.Refusals.{traceRefusals}
 use Rattle.rules.specs.Frame.{inFrame}
 use Rattle.rules.specs.History.{historyInFrame, withdrawals}
@@ -46,7 +46,7 @@ traceEntries isHistory records rows places at =
 pub history-told : (history : List ℕ) (records rows places : ℕ) (n : Nonce) (s : State) → s .history ≡ rowsOf recordShape records history
     → told (chain (traceEntries (historyFrame history records) records rows places (length (beforePayment (n .0) (rowsOf recordShape records history)))))
     ≡ plain (smallest (historyRefusals history records rows places s n))
-unfolding traceRefusals numberOf notBelow all
+unfolding traceRefusals toldRefusal notBelow all
 history-told history records rows places n s e =
     rw (e, ← no-payment (n .0) (rowsOf recordShape records history), length-rows recordShape records history)
     (chain-told (traceEntries (historyFrame history records) records rows places (length (beforePayment (n .0) (rowsOf recordShape records history)))) refl)
@@ -55,7 +55,7 @@ history-told history records rows places n s e =
 pub trace-told : (b : Book) (rows places : ℕ) (n : Nonce) (a found : Answer)
     → told found ≡ plain (smallest (historyRefusals (b .history) (b .desk .counts .records) rows places (view b) n))
     → a ≡ cond (not (inFrame b)) (Answer.Refused Refusal.BadBook) found → told a ≡ plain (traceNumberFor b rows places n)
-unfolding traceNumberFor traceRefusals numberOf notBelow all
+unfolding traceNumberFor traceRefusals toldRefusal notBelow all
 trace-told b rows places n a found h p = go (inFrame b) refl p
   where
     go : (t : Bool) → inFrame b ≡ t → a ≡ cond (not t) (Answer.Refused Refusal.BadBook) found → told a ≡ plain (traceNumberFor b rows places n)
@@ -88,7 +88,7 @@ module _ (b : Book) (work out : List Lot) (n : Nonce) (a : Answer) (tells : told
 
   -- not refused: the history is one, and it can be traced
   pub few-records : isDone a ≡ true → b .desk .counts .records ≤ historyRows
-  unfolding traceNumberFor traceRefusals view numberOf all
+  unfolding traceNumberFor traceRefusals view toldRefusal all
   few-records d =
       let rs : List (ℕ × Bool) = badHistory b ∷ traceRefusals (length work) (length out) (view b) n in
       let none = none-applies rs refl (done d) in
@@ -97,7 +97,7 @@ module _ (b : Book) (work out : List Lot) (n : Nonce) (a : Answer) (tells : told
       f .records
 
   pub can-trace : isDone a ≡ true → (held : List Lot) → b .desk .counts .records ≤ length held → CanTrace (b .history) (b .desk .counts .records) (n .0) work held out
-  unfolding traceNumberFor traceRefusals view numberOf all
+  unfolding traceNumberFor traceRefusals view toldRefusal all
   can-trace d held e =
       let rs : List (ℕ × Bool) = badHistory b ∷ traceRefusals (length work) (length out) (view b) n in
       let none = none-applies rs refl (done d) in

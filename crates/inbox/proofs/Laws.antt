@@ -18,7 +18,7 @@ use Rattle.rules.specs.Limits.{ceiling, inboxRows, historyRows, highestNumber, 
 use Rattle.rules.specs.Lists.{all, any, same, indexOf}
 use Rattle.rules.specs.Tables.{Edit, rowsOf, lay, edited, depositShape, recordShape}
 use Rattle.rules.specs.State.{State, Book, view, laid, deskOf, inboxOf, historyOf}
-use Rattle.rules.specs.Replies.{numberOf, told, plain, smallest}
+use Rattle.rules.specs.Replies.{toldRefusal, told, plain, smallest}
 use Rattle.rules.specs.Refusals.{table, refusals, full, fulls}
 use Rattle.rules.specs.Effects.{total, matches, deposited, effect, balancesAfter, holdersAfter, inboxEdit, outsideAfter, claimRecord, recordsOf}
 use Rattle.rules.specs.Answer.{done, bookOf}
@@ -74,7 +74,7 @@ depositEntries lifetime last unclaimed x =
 pub deposit-told : (lifetime : List ℕ) (last : DepositNumber) (unclaimed : ℕ) (x : Deposit) (s : State)
     → s .outside .lifetime ≡ lifetime → s .outside .last ≡ last → length (s .inbox) ≡ unclaimed
     → told (chain (depositEntries lifetime last unclaimed x)) ≡ plain (smallest (table s (Call.Deposit x)))
-unfolding refusals fulls full total numberOf notBelow all
+unfolding refusals fulls full total toldRefusal notBelow all
 deposit-told lifetime last unclaimed x s p q r = rw (p, q, r) (chain-told (depositEntries lifetime last unclaimed x) refl)
 
 pub can-deposit : (b : Book) (x : Deposit) → Accepted b (Call.Deposit x) → CanDeposit (b .desk) x
@@ -145,7 +145,7 @@ claimEntries waits records c =
 
 pub claim-told : (waits : Bool) (records : ℕ) (c : ClaimFields) (s : State) → any (matches c) (s .inbox) ≡ waits → length (s .history) ≡ records
     → told (chain (claimEntries waits records c)) ≡ plain (smallest (table s (Call.Claim c)))
-unfolding refusals fulls full numberOf notBelow all
+unfolding refusals fulls full toldRefusal notBelow all
 claim-told waits records c s p q = rw (p, q) (chain-told (claimEntries waits records c) refl)
 
 -- in frame, a deposit is found in the table where one of the state matches

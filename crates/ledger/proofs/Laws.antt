@@ -18,7 +18,7 @@ use Rattle.rules.specs.Limits.{ceiling, historyRows, isMember, isAsset, isDomai
 use Rattle.rules.specs.Lists.{all}
 use Rattle.rules.specs.Tables.{edited, recordShape}
 use Rattle.rules.specs.State.{State, Book, view, laid, deskOf, historyOf}
-use Rattle.rules.specs.Replies.{numberOf, told, plain, smallest}
+use Rattle.rules.specs.Replies.{toldRefusal, told, plain, smallest}
 use Rattle.rules.specs.Refusals.{table, refusals, full, fulls}
 use Rattle.rules.specs.Effects.{changesNothing, balance, debit, holder, effect, balancesAfter, holdersAfter, inboxEdit, outsideAfter, transferRecord, grantRecord, recordsOf}
 use Rattle.rules.specs.Frame.{upToCeiling}
@@ -47,7 +47,7 @@ transferEntries balances records t =
 
 pub transfer-told : (balances : List ℕ) (records : ℕ) (t : TransferFields) (s : State) → s .balances ≡ balances → length (s .history) ≡ records
     → told (chain (transferEntries balances records t)) ≡ plain (smallest (table s (Call.Transfer t)))
-unfolding refusals fulls full numberOf notBelow all
+unfolding refusals fulls full toldRefusal notBelow all
 transfer-told balances records t s p q = rw (p, q) (chain-told (transferEntries balances records t) refl)
 
 -- ---- what makes it safe, and what is laid
@@ -103,7 +103,7 @@ grantEntries holders records g =
 
 pub grant-told : (holders : List ℕ) (records : ℕ) (g : GrantFields) (s : State) → s .holders ≡ holders → length (s .history) ≡ records
     → told (chain (grantEntries holders records g)) ≡ plain (smallest (table s (Call.Grant g)))
-unfolding refusals fulls full holder numberOf notBelow all
+unfolding refusals fulls full holder toldRefusal notBelow all
 grant-told holders records g s p q = rw (p, q) (chain-told (grantEntries holders records g) refl)
 
 pub can-grant : (b : Book) (g : GrantFields) → Accepted b (Call.Grant g) → CanGrant (b .desk) g
@@ -137,7 +137,7 @@ signEntries holders g =
     ∷ []
 
 pub sign-told : (holders : List ℕ) (g : SignFields) (s : State) → s .holders ≡ holders → told (chain (signEntries holders g)) ≡ plain (smallest (table s (Call.Sign g)))
-unfolding refusals fulls holder numberOf notBelow all
+unfolding refusals fulls holder toldRefusal notBelow all
 sign-told holders g s p = rw p (chain-told (signEntries holders g) refl)
 
 pub sign-answers : (b : Book) (s : SignFields) (a : Answer) → told a ≡ plain (replyNumber b (Call.Sign s))

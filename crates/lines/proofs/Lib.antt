@@ -1,3 +1,3 @@
-pub mod TakingLaws
 pub mod LineLaws
+pub mod Held
 pub mod Once

@@ -1,3 +1,2 @@
 -- What the contracts of the line reader cite, beside the rules' own definitions and the field reader's.
 pub mod Reading
-pub mod Fours

@@ -1,26 +1,29 @@
 -- Reading one field after another: so many numbers, and nothing after the last.
-use Prim.Native.Nat.{ℕ, zero, suc}
+use Prim.Native.Nat.{ℕ}
 use mathlib.Core.List.{List, [], _∷_}
 use Rattle.rules.specs.declared.calls.Field.{Field}
-use Rattle.rules.specs.declared.calls.Line.{Line}
-use Rattle.rules.specs.Lines.{afterField, at, Form}
-use Rattle.fields.specs.Reading.{nextField, taken}
+use Rattle.rules.specs.Lines.{fieldsAfter, Numbers, wanted}
+use Rattle.lines.specs.declared.read.Two.{Two}
+use Rattle.lines.specs.declared.read.Three.{Three}
+use Rattle.lines.specs.declared.read.Four.{Four}
 
--- the part after the field that follows in a part that was handed back
-unfoldable pub afterNext : List ℕ → List ℕ
-afterNext [] = []
-afterNext (t ∷ rest) = afterField rest
+-- so many numbers from field k on, in a part that a field reader handed back
+unfoldable pub wantedIn : ℕ → ℕ → List ℕ → Numbers
+wantedIn k n s = wanted k n (fieldsAfter s)
 
--- what exactly so many numbers make, taken one at a time, each after its tab; where one is missing or no number, or something comes after the last, that they are not there
-unfoldable pub taking : {A : Type 0} → ℕ → A → (List ℕ → A) → List ℕ → A
-taking zero otherwise made [] = made []
-taking zero otherwise made (t ∷ rest) = otherwise
-taking (suc k) otherwise made s = taken otherwise (λ n. taking k otherwise (λ ns. made (n ∷ ns)) (afterNext s)) (nextField s)
+-- what the functions that read one, two, three or four numbers answer, as a list of them or the field that does not read
+unfoldable pub one : Field → Numbers
+one (Field.Number a) = Numbers.allRead (a ∷ [])
+one (Field.FailsAt k) = Numbers.failsAt k
 
--- the number of a field with nothing after it
-unfoldable pub lastField : List ℕ → Field
-lastField s = taking 1 Field.NotANumber (λ ns. Field.Number (at ns 0)) s
+unfoldable pub two : Two → Numbers
+two (Two.Numbers a b) = Numbers.allRead (a ∷ b ∷ [])
+two (Two.FailsAt k) = Numbers.failsAt k
 
--- the line of a form whose word stands before this part
-unfoldable pub readsAs : Form → List ℕ → Line
-readsAs f s = taking (f .count) Line.Malformed (λ ns. Line.Reads (f .call ns)) s
+unfoldable pub three : Three → Numbers
+three (Three.Numbers a b c) = Numbers.allRead (a ∷ b ∷ c ∷ [])
+three (Three.FailsAt k) = Numbers.failsAt k
+
+unfoldable pub four : Four → Numbers
+four (Four.Numbers a b c d) = Numbers.allRead (a ∷ b ∷ c ∷ d ∷ [])
+four (Four.FailsAt k) = Numbers.failsAt k

@@ -11,37 +11,76 @@ use rules::calls::Line;
 use rules::calls::SignFields;
 use rules::calls::TransferFields;
 use rules::calls::WithdrawalFields;
+use rules::limits::MOST_BYTES;
 use rules::rows::Deposit;
 use rules::rows::DepositNumber;
 use rules::rows::Nonce;
+ghost use Prim.Native.Nat.{_+_, _<_};
 ghost use mathlib.Core.Path.{_≡_};
+ghost use lib.ListN.{length};
+ghost use Rattle.rules.specs.Limits.{highestField};
 ghost use Rattle.rules.specs.Lists.{same};
 ghost use Rattle.rules.specs.Lines.{depositForm, claimForm, transferForm, withdrawForm, sendForm, settleForm, grantForm, signForm, traceForm};
-ghost use Rattle.rules.specs.Lines.{readLine};
-ghost use Rattle.lines.specs.Reading.{lastField, readsAs};
-ghost use Rattle.lines.specs.Fours.{fourOf};
+ghost use Rattle.rules.specs.Lines.{numbersOf, formed, readWhole, unread, readLine};
+ghost use Rattle.lines.specs.Reading.{wantedIn, one, two, three, four};
 
-// The four numbers of a deposit, a claim, a transfer or a withdrawal, in the line's order.
-struct Four {
-    first: u64,
-    second: u64,
-    third: u64,
-    fourth: u64,
+// What reading so many numbers gives: the numbers, in the line's order, or the field that does not read.
+enum Two {
+    Numbers(u64, u64),
+    FailsAt(u64),
 }
 
-// What reading four numbers gives.
-enum Numbers {
-    Four(Four),
-    Malformed,
+enum Three {
+    Numbers(u64, u64, u64),
+    FailsAt(u64),
 }
 
-// "A read line is one of nine calls, each with its own numbers." The word says which.
+enum Four {
+    Numbers(u64, u64, u64, u64),
+    FailsAt(u64),
+}
+
+// A line "has at most 120 bytes". One that has more is read for the field that it tells.
 pub fn read_line(s: &[u8]) -> Line
     ensures { λ r. ⌜ r ≡ readLine (now (s .entry)) ⌝ }
 {
-    if 120 < s.len() {
-        return Line::Malformed;
+    if MOST_BYTES < s.len() {
+        return Line::Malformed(unread_field(s));
     }
+    read_whole(s)
+}
+
+// The field that an over-long or unfinished line tells.
+pub fn unread_field(s: &[u8]) -> u64
+    ensures { λ r. ⌜ Line.Malformed r ≡ unread (readWhole (now (s .entry))) ⌝ }
+{
+    match read_whole(s) {
+        Line::Reads(c) => count_with_word(c),
+        Line::Malformed(k) => k,
+    }
+}
+
+// "If all read, their count with the word."
+fn count_with_word(c: Call) -> u64
+    ensures { λ r. ⌜ r ≡ length (numbersOf c) + 1 ⌝ }
+{
+    match c {
+        Call::Deposit(_) => 5,
+        Call::Claim(_) => 5,
+        Call::Transfer(_) => 5,
+        Call::Withdraw(_) => 5,
+        Call::Send => 1,
+        Call::Settle(_) => 2,
+        Call::Grant(_) => 4,
+        Call::Sign(_) => 3,
+        Call::Trace(_) => 2,
+    }
+}
+
+// "A read line is one of nine calls, each with its own numbers." The word says which, and "the word is field 0".
+fn read_whole(s: &[u8]) -> Line
+    ensures { λ r. ⌜ r ≡ readWhole (now (s .entry)) ⌝ }
+{
     let e = field_end(s);
     let word = &s[..e];
     let rest = after_field(s, e);
@@ -72,168 +111,183 @@ pub fn read_line(s: &[u8]) -> Line
     if word_is(word, b"trace") {
         return read_trace(rest);
     }
-    Line::Malformed
+    Line::Malformed(0)
 }
 
-// The number that stands alone in a part that was handed back: nothing comes after it.
-fn last_field(s: &[u8]) -> Field
-    ensures { λ r. ⌜ r ≡ lastField (now (s .entry)) ⌝ }
+// Field k, and nothing after it: "one too many the next number".
+fn last_field(s: &[u8], k: u64) -> Field
+    requires { ⌜ k < highestField ⌝ }
+    ensures { λ r. ⌜ one r ≡ wantedIn k 1 (now (s .entry)) ⌝ }
 {
-    let ReadField::Number(n, end) = next_field(s) else {
-        return Field::NotANumber;
+    let ReadField::Number(n, end) = next_field(s, k) else {
+        return Field::FailsAt(k);
     };
     if end < s.len() {
-        return Field::NotANumber;
+        return Field::FailsAt(k + 1);
     }
     Field::Number(n)
 }
 
-// Four numbers and nothing after them, for the four calls that have so many.
-fn four_fields(s: &[u8]) -> Numbers
-    ensures { λ r. ⌜ r ≡ fourOf (now (s .entry)) ⌝ }
+// Two numbers from field k on, and nothing after them.
+fn two_fields(s: &[u8], k: u64) -> Two
+    requires { ⌜ k + 1 < highestField ⌝ }
+    ensures { λ r. ⌜ two r ≡ wantedIn k 2 (now (s .entry)) ⌝ }
 {
-    let ReadField::Number(first, end) = next_field(s) else {
-        return Numbers::Malformed;
+    let ReadField::Number(first, end) = next_field(s, k) else {
+        return Two::FailsAt(k);
     };
-    let s = after_field(s, end);
-    let ReadField::Number(second, end) = next_field(s) else {
-        return Numbers::Malformed;
+    match last_field(after_field(s, end), k + 1) {
+        Field::Number(second) => Two::Numbers(first, second),
+        Field::FailsAt(j) => Two::FailsAt(j),
+    }
+}
+
+// Three of them.
+fn three_fields(s: &[u8], k: u64) -> Three
+    requires { ⌜ k + 2 < highestField ⌝ }
+    ensures { λ r. ⌜ three r ≡ wantedIn k 3 (now (s .entry)) ⌝ }
+{
+    let ReadField::Number(first, end) = next_field(s, k) else {
+        return Three::FailsAt(k);
     };
-    let s = after_field(s, end);
-    let ReadField::Number(third, end) = next_field(s) else {
-        return Numbers::Malformed;
+    match two_fields(after_field(s, end), k + 1) {
+        Two::Numbers(second, third) => Three::Numbers(first, second, third),
+        Two::FailsAt(j) => Three::FailsAt(j),
+    }
+}
+
+// Four of them.
+fn four_fields(s: &[u8], k: u64) -> Four
+    requires { ⌜ k + 3 < highestField ⌝ }
+    ensures { λ r. ⌜ four r ≡ wantedIn k 4 (now (s .entry)) ⌝ }
+{
+    let ReadField::Number(first, end) = next_field(s, k) else {
+        return Four::FailsAt(k);
     };
-    let Field::Number(fourth) = last_field(after_field(s, end)) else {
-        return Numbers::Malformed;
-    };
-    Numbers::Four(Four {
-        first,
-        second,
-        third,
-        fourth,
-    })
+    match three_fields(after_field(s, end), k + 1) {
+        Three::Numbers(second, third, fourth) => Four::Numbers(first, second, third, fourth),
+        Three::FailsAt(j) => Four::FailsAt(j),
+    }
 }
 
 // deposit: number, asset, amount, member.
 fn read_deposit(s: &[u8]) -> Line
-    ensures { λ r. ⌜ r ≡ readsAs depositForm (now (s .entry)) ⌝ }
+    ensures { λ r. ⌜ r ≡ formed depositForm (wantedIn 1 4 (now (s .entry))) ⌝ }
 {
-    let Numbers::Four(q) = four_fields(s) else {
-        return Line::Malformed;
-    };
-    let number = DepositNumber(q.first);
-    Line::Reads(Call::Deposit(Deposit {
-        number,
-        asset: q.second,
-        amount: q.third,
-        member: q.fourth,
-    }))
+    match four_fields(s, 1) {
+        Four::Numbers(n, asset, amount, member) => {
+            let number = DepositNumber(n);
+            Line::Reads(Call::Deposit(Deposit {
+                number,
+                asset,
+                amount,
+                member,
+            }))
+        }
+        Four::FailsAt(j) => Line::Malformed(j),
+    }
 }
 
 // claim: member, number, asset, amount.
 fn read_claim(s: &[u8]) -> Line
-    ensures { λ r. ⌜ r ≡ readsAs claimForm (now (s .entry)) ⌝ }
+    ensures { λ r. ⌜ r ≡ formed claimForm (wantedIn 1 4 (now (s .entry))) ⌝ }
 {
-    let Numbers::Four(q) = four_fields(s) else {
-        return Line::Malformed;
-    };
-    let number = DepositNumber(q.second);
-    Line::Reads(Call::Claim(ClaimFields {
-        member: q.first,
-        number,
-        asset: q.third,
-        amount: q.fourth,
-    }))
+    match four_fields(s, 1) {
+        Four::Numbers(member, n, asset, amount) => {
+            let number = DepositNumber(n);
+            Line::Reads(Call::Claim(ClaimFields {
+                member,
+                number,
+                asset,
+                amount,
+            }))
+        }
+        Four::FailsAt(j) => Line::Malformed(j),
+    }
 }
 
 // transfer: from, to, asset, amount.
 fn read_transfer(s: &[u8]) -> Line
-    ensures { λ r. ⌜ r ≡ readsAs transferForm (now (s .entry)) ⌝ }
+    ensures { λ r. ⌜ r ≡ formed transferForm (wantedIn 1 4 (now (s .entry))) ⌝ }
 {
-    let Numbers::Four(q) = four_fields(s) else {
-        return Line::Malformed;
-    };
-    Line::Reads(Call::Transfer(TransferFields {
-        from: q.first,
-        to: q.second,
-        asset: q.third,
-        amount: q.fourth,
-    }))
+    match four_fields(s, 1) {
+        Four::Numbers(from, to, asset, amount) => Line::Reads(Call::Transfer(TransferFields {
+            from,
+            to,
+            asset,
+            amount,
+        })),
+        Four::FailsAt(j) => Line::Malformed(j),
+    }
 }
 
 // withdraw: member, asset, amount, payee.
 fn read_withdraw(s: &[u8]) -> Line
-    ensures { λ r. ⌜ r ≡ readsAs withdrawForm (now (s .entry)) ⌝ }
+    ensures { λ r. ⌜ r ≡ formed withdrawForm (wantedIn 1 4 (now (s .entry))) ⌝ }
 {
-    let Numbers::Four(q) = four_fields(s) else {
-        return Line::Malformed;
-    };
-    Line::Reads(Call::Withdraw(WithdrawalFields {
-        member: q.first,
-        asset: q.second,
-        amount: q.third,
-        payee: q.fourth,
-    }))
+    match four_fields(s, 1) {
+        Four::Numbers(member, asset, amount, payee) => Line::Reads(Call::Withdraw(WithdrawalFields {
+            member,
+            asset,
+            amount,
+            payee,
+        })),
+        Four::FailsAt(j) => Line::Malformed(j),
+    }
 }
 
 // send: the word alone.
 fn read_send(s: &[u8]) -> Line
-    ensures { λ r. ⌜ r ≡ readsAs sendForm (now (s .entry)) ⌝ }
+    ensures { λ r. ⌜ r ≡ formed sendForm (wantedIn 1 0 (now (s .entry))) ⌝ }
 {
     if 0 < s.len() {
-        return Line::Malformed;
+        return Line::Malformed(1);
     }
     Line::Reads(Call::Send)
 }
 
 // settle: nonce.
 fn read_settle(s: &[u8]) -> Line
-    ensures { λ r. ⌜ r ≡ readsAs settleForm (now (s .entry)) ⌝ }
+    ensures { λ r. ⌜ r ≡ formed settleForm (wantedIn 1 1 (now (s .entry))) ⌝ }
 {
-    let Field::Number(n) = last_field(s) else {
-        return Line::Malformed;
-    };
-    Line::Reads(Call::Settle(Nonce(n)))
+    match last_field(s, 1) {
+        Field::Number(n) => Line::Reads(Call::Settle(Nonce(n))),
+        Field::FailsAt(j) => Line::Malformed(j),
+    }
 }
 
 // grant: from, to, domain.
 fn read_grant(s: &[u8]) -> Line
-    ensures { λ r. ⌜ r ≡ readsAs grantForm (now (s .entry)) ⌝ }
+    ensures { λ r. ⌜ r ≡ formed grantForm (wantedIn 1 3 (now (s .entry))) ⌝ }
 {
-    let ReadField::Number(from, end) = next_field(s) else {
-        return Line::Malformed;
-    };
-    let s = after_field(s, end);
-    let ReadField::Number(to, end) = next_field(s) else {
-        return Line::Malformed;
-    };
-    let Field::Number(domain) = last_field(after_field(s, end)) else {
-        return Line::Malformed;
-    };
-    Line::Reads(Call::Grant(GrantFields { from, to, domain }))
+    match three_fields(s, 1) {
+        Three::Numbers(from, to, domain) => Line::Reads(Call::Grant(GrantFields {
+            from,
+            to,
+            domain,
+        })),
+        Three::FailsAt(j) => Line::Malformed(j),
+    }
 }
 
 // sign: member, domain.
 fn read_sign(s: &[u8]) -> Line
-    ensures { λ r. ⌜ r ≡ readsAs signForm (now (s .entry)) ⌝ }
+    ensures { λ r. ⌜ r ≡ formed signForm (wantedIn 1 2 (now (s .entry))) ⌝ }
 {
-    let ReadField::Number(member, end) = next_field(s) else {
-        return Line::Malformed;
-    };
-    let Field::Number(domain) = last_field(after_field(s, end)) else {
-        return Line::Malformed;
-    };
-    Line::Reads(Call::Sign(SignFields { member, domain }))
+    match two_fields(s, 1) {
+        Two::Numbers(member, domain) => Line::Reads(Call::Sign(SignFields { member, domain })),
+        Two::FailsAt(j) => Line::Malformed(j),
+    }
 }
 
 // trace: nonce.
 fn read_trace(s: &[u8]) -> Line
-    ensures { λ r. ⌜ r ≡ readsAs traceForm (now (s .entry)) ⌝ }
+    ensures { λ r. ⌜ r ≡ formed traceForm (wantedIn 1 1 (now (s .entry))) ⌝ }
 {
-    let Field::Number(n) = last_field(s) else {
-        return Line::Malformed;
-    };
-    Line::Reads(Call::Trace(Nonce(n)))
+    match last_field(s, 1) {
+        Field::Number(n) => Line::Reads(Call::Trace(Nonce(n))),
+        Field::FailsAt(j) => Line::Malformed(j),
+    }
 }
 
 // Whether the line's first field is this word.

@@ -14,7 +14,7 @@ use Rattle.rules.specs.declared.calls.Call.{Call}
 use Rattle.rules.specs.Limits.{historyRows}
 use Rattle.rules.specs.Tables.{recordShape}
 use Rattle.rules.specs.State.{Book, view, historyOf}
-use Rattle.rules.specs.Replies.{numberOf, smallest, if-done}
+use Rattle.rules.specs.Replies.{toldRefusal, smallest, if-done}
 use Rattle.rules.specs.Refusals.{refusals, fulls, traceRefusals}
 use Rattle.rules.specs.Frame.{inFrame}
 use Rattle.rules.specs.History.{withdrawals, historyInFrame}
@@ -52,7 +52,7 @@ no-table-small b rows h l = le-ltb rows (length (historyOf b)) (l (records-fit b
 module _ (b : Book) (work out : List Lot) (n : Nonce) (w : Enough b (length work)) (o : Enough b (length out)) where
   -- the two give the same number
   pub trace-number : replyNumber b (Call.Trace n) ≡ traceNumber b work out n
-  unfolding replyNumber traceNumber frameTest refusals fulls traceRefusals view numberOf
+  unfolding replyNumber traceNumber frameTest refusals fulls traceRefusals view toldRefusal
   trace-number = go (inFrame b) refl (historyInFrame (historyOf b))
     where
       small : ℕ → ℕ → Bool

@@ -19,7 +19,7 @@ use Rattle.rules.specs.Limits.{ceiling, outboxRows, historyRows, isMember, isAs
 use Rattle.rules.specs.Lists.{all}
 use Rattle.rules.specs.Tables.{rowsOf, lay, edited, paymentShape, recordShape}
 use Rattle.rules.specs.State.{State, Book, view, laid, deskOf, outboxOf, historyOf, payments}
-use Rattle.rules.specs.Replies.{numberOf, told, plain, smallest}
+use Rattle.rules.specs.Replies.{toldRefusal, told, plain, smallest}
 use Rattle.rules.specs.Refusals.{table, refusals, full, fulls}
 use Rattle.rules.specs.Effects.{balance, oldest, paymentOf, withdrawn, sent, settledOne, effect, balancesAfter, holdersAfter, inboxEdit, outsideAfter, withdrawalRecord, recordsOf}
 use Rattle.rules.specs.Frame.{hasRows, upToCeiling, paymentInLimits, noncesRise, inFrame}
@@ -85,18 +85,18 @@ withdrawEntries balances used records w =
 pub withdraw-told : (balances : List ℕ) (used records : ℕ) (w : WithdrawalFields) (s : State)
     → s .balances ≡ balances → length (payments (s .outside)) ≡ used → length (s .history) ≡ records
     → told (chain (withdrawEntries balances used records w)) ≡ plain (smallest (table s (Call.Withdraw w)))
-unfolding refusals fulls full numberOf notBelow all
+unfolding refusals fulls full toldRefusal notBelow all
 withdraw-told balances used records w s p q r = rw (p, q, r) (chain-told (withdrawEntries balances used records w) refl)
 
 pub send-told : (waiting : ℕ) (s : State) → length (s .outside .waiting) ≡ waiting
     → told (chain ((Refusal.NothingWaiting, eqb waiting 0) ∷ [])) ≡ plain (smallest (table s Call.Send))
-unfolding refusals fulls numberOf notBelow all
+unfolding refusals fulls toldRefusal notBelow all
 send-told waiting s p = rw p (chain-told ((Refusal.NothingWaiting, eqb waiting 0) ∷ []) refl)
 
 pub settle-told : (inflight : ℕ) (due n : Nonce) (s : State)
     → length (s .outside .inflight) ≡ inflight → (1 ≤ inflight → oldest (s .outside .inflight) .nonce ≡ due)
     → told (chain ((Refusal.NotNext, eqb inflight 0 || not (eqb (due .0) (n .0))) ∷ [])) ≡ plain (smallest (table s (Call.Settle n)))
-unfolding refusals fulls numberOf notBelow all
+unfolding refusals fulls toldRefusal notBelow all
 settle-told zero due n s p q = rw p (chain-told ((Refusal.NotNext, true) ∷ []) refl)
 settle-told (suc k) due n s p q = rw (p, q (omega arith)) (chain-told ((Refusal.NotNext, eqb (suc k) 0 || not (eqb (due .0) (n .0))) ∷ []) refl)
 

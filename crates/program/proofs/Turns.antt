@@ -7,11 +7,12 @@ use native.Mathlib.Omega.{arith}
 use lib.IntN.{ℤ, pos, negsuc}
 use lib.ListN.{length}
 use lib.Signed.{ltZ, nonNeg}
+use Rattle.rules.specs.Limits.{mostHeld}
 use Rattle.rules.specs.declared.answers.Tally.{Tally}
 use Rattle.runner.specs.declared.feed.Feeding.{Feeding}
 use Rattle.runner.specs.Feeding.{Ready, Begun}
 
-pub begun-ready : (f : Feeding) (hold : List ℕ) → Begun f → length hold ≡ 121 → Ready f hold
+pub begun-ready : (f : Feeding) (hold : List ℕ) → Begun f → length hold ≡ mostHeld → Ready f hold
 begun-ready f hold b l =
     let d : f .running .tally .done ≡ 0 = ap (λ (t : Tally). t .done) (b .tally) in
     let o : f .running .tally .other ≡ 0 = ap (λ (t : Tally). t .other) (b .tally) in

@@ -4,6 +4,7 @@
 use libc::STDOUT_FILENO;
 use rules::limits::HISTORY_SIZE;
 use rules::limits::INBOX_SIZE;
+use rules::limits::MOST_HELD;
 use rules::limits::OUTBOX_SIZE;
 use runner::feed::Feeding;
 use runner::feed::close;
@@ -13,6 +14,7 @@ ghost use mathlib.Core.Path.{_≡_};
 ghost use lib.ListN.{length};
 ghost use lib.Signed.{nonNeg};
 ghost use mathlib.Core.Bool.{true};
+ghost use Rattle.rules.specs.Limits.{mostHeld};
 ghost use Rattle.runner.specs.Feeding.{fedMachine, Ready};
 ghost use Rattle.libc.specs.Io.{Moved};
 ghost use Rattle.program.specs.Turns.{given, Answers};
@@ -22,7 +24,7 @@ pub fn run(fd: i32) {
     let mut inbox = [0; INBOX_SIZE];
     let mut outbox = [0; OUTBOX_SIZE];
     let mut history = [0; HISTORY_SIZE];
-    let mut hold = [0; 121];
+    let mut hold = [0; MOST_HELD];
     let mut input = io::large_buffer();
     let mut out = io::large_buffer();
     session(
@@ -60,7 +62,7 @@ fn session(
     input: &mut [u8],
     out: &mut [u8],
 )
-    requires { ⌜ length (now hold) ≡ 121 ⌝ }
+    requires { ⌜ length (now hold) ≡ mostHeld ⌝ }
     requires { ⌜ length (now out) ≡ 65536 ⌝ }
 {
     let feeding = start();

@@ -9,7 +9,7 @@ use borrow.Author.Tests.{le-ltb}
 use mathlib.Core.List.{List, [], _∷_}
 use Rattle.promises.specs.Types.{Nonce, Lot, Call}
 use Rattle.rules.specs.State.{Book, view, historyOf}
-use Rattle.rules.specs.Replies.{Reply, numberOf, told, toldOrigin, smallest, if-done}
+use Rattle.rules.specs.Replies.{Reply, toldRefusal, told, toldOrigin, smallest, if-done}
 use Rattle.rules.specs.Limits.{historyRows}
 use Rattle.rules.specs.Frame.{inFrame}
 use Rattle.rules.specs.History.{historyInFrame}
@@ -36,11 +36,11 @@ kept zero done e h this that = absurd (h e)
 kept (suc k) done e h this that = refl
 
 trace-own : (b : Book) (work out : List Lot) (n : Nonce) → isOneOf (traceNumber b work out n) (0 ∷ 2 ∷ 20 ∷ 21 ∷ []) ≡ true
-unfolding traceNumber traceRefusals numberOf
+unfolding traceNumber traceRefusals toldRefusal
 trace-own b work out n = smallest-own _
 
 question-own : (b : Book) (m a : ℕ) → isOneOf (provenanceNumber b m a) (0 ∷ 2 ∷ 3 ∷ 4 ∷ []) ≡ true
-unfolding provenanceNumber numberOf
+unfolding provenanceNumber toldRefusal
 question-own b m a = smallest-own _
 
 pub lent-trace : (b : Book) (work out : List Lot) (n : Nonce) → LentTrace b work out n
@@ -74,7 +74,7 @@ framed-by true y e = refl
 framed-by false y e = absurd (false≢true (sym e))
 
 pub never-small : (b : Book) (n : Nonce) → answer b (Call.Trace n) .reply .number ≢ 20
-unfolding answer replyNumber frameTest refusals fulls traceRefusals numberOf told doneAnswer view
+unfolding answer replyNumber frameTest refusals fulls traceRefusals toldRefusal told doneAnswer view
 never-small b n e =
     never-twenty (badHistory b .1) _ _ (λ f.
     let r = records-fit b (framed-by (inFrame b) (historyInFrame (historyOf b)) f) in

@@ -11,7 +11,7 @@ use Rattle.rules.specs.Lists.{those, joined}
 use Rattle.rules.specs.State.{Book, emptyBook}
 use Rattle.rules.specs.Answer.{Outcome}
 use Rattle.rules.specs.Runs.{bookAfter, run}
-use Rattle.rules.specs.Lines.{lineFeed}
+use Rattle.rules.specs.Lines.{lineFeed, readWhole, unread}
 use Rattle.rules.specs.Transcript.{InputLine, lastLine, linesFrom, inputLines, readInput, answerLine, transcript}
 use Rattle.runner.specs.Machine.{Machine, start, stopped, fed, feeds, writes, closing}
 use Rattle.runner.proofs.Cuts.{Holds, toCome, by-bytes, feeds-stopped, writes-stopped, none-to-come, one-fewer, line-fed, line-written, byte-fed, byte-written, start-holds, writes-append, machine-transcript}
@@ -28,18 +28,23 @@ run-append b (c ∷ cs) ds = run-append (bookAfter b c) cs ds
 line-run : (b : Book) (l : Line) → run b (callOf l) ≡ answerLine b l .book
 unfolding run callOf answerLine
 line-run b (Line.Reads c) = refl
-line-run b Line.Malformed = refl
+line-run b (Line.Malformed k) = refl
 
 pub lines-run : (b : Book) (l : InputLine) (ls : List InputLine) → run b (callsOf (l ∷ ls)) ≡ run (answerLine b (readInput l) .book) (callsOf ls)
 unfolding callsOf joined
 lines-run b l ls = rw (run-append b (callOf (readInput l)) (callsOf ls), line-run b (readInput l))
 
 -- one that is not ended is no call, and among those that are ended it does not count
+none-unread : (l : Line) → callOf (unread l) ≡ []
+unfolding callOf unread
+none-unread (Line.Reads c) = refl
+none-unread (Line.Malformed k) = refl
+
 last-calls : (k : ℕ) (before : List ℕ) → callsOf (take k (lastLine before)) ≡ []
-unfolding callsOf joined lastLine
+unfolding callsOf joined lastLine readInput
 last-calls zero before = refl
 last-calls (suc k) [] = refl
-last-calls (suc k) (b ∷ bs) = rw (take-nil {A = InputLine} k) (unfold readInput callOf in refl)
+last-calls (suc k) (b ∷ bs) = rw (take-nil {A = InputLine} k, none-unread (readWhole (b ∷ bs)))
 
 last-ended : (k : ℕ) (before : List ℕ) → ended (take k (lastLine before)) ≡ []
 unfolding ended those lastLine

@@ -29,7 +29,7 @@ pub held-here : inboxOf (after (firstRead ++ secondRead) .book) ≡ deposited 1 
 unfolding compute start held-with fed feeds
 held-here = refl
 
-pub written-here : writesAll start (firstRead ∷ secondRead ∷ lastRead ∷ []) ≡ bytes "1\t0\n2\t18\n3\t1\nend\t1\t2\n"
+pub written-here : writesAll start (firstRead ∷ secondRead ∷ lastRead ∷ []) ≡ bytes "1\t0\n2\t18\n3\t1\t1\nend\t1\t2\n"
 unfolding compute start held-with fed written feeds writes unfinished unfinishedText atEnd closing writesAll
 written-here = refl
 

@@ -1,6 +1,7 @@
 -- What follows from the promises, said as people ask for it.
 use Prim.Native.Nat.{ℕ, _≤_}
 use mathlib.Core.Path.{_≡_, refl, ap, _∙_}
+use mathlib.Core.Logic.{_≢_}
 use mathlib.Core.Bool.{Bool, true, false, cond, or-true}
 use mathlib.Core.List.{List, [], _∷_, _++_, map}
 use native.Mathlib.Omega.{arith}
@@ -12,7 +13,8 @@ use Rattle.rules.specs.Limits.{mostBytes, highestField}
 use Rattle.rules.specs.Lists.{all, any, bytes}
 use Rattle.rules.specs.State.{Book, Empty}
 use Rattle.rules.specs.Runs.{run}
-use Rattle.rules.specs.Lines.{tab, fieldsFrom, fields, Numbers, numbers, readLine, decimal, tabbed, formOf, numbersOf, writeLine, depositForm, claimForm, transferForm, withdrawForm, sendForm, settleForm, grantForm, signForm, traceForm}
+use Rattle.rules.specs.Lines.{tab, fieldsFrom, fields, Numbers, wanted, readLine, decimal, tabbed, formOf, numbersOf, writeLine, depositForm, claimForm, transferForm, withdrawForm, sendForm, settleForm, grantForm, signForm, traceForm}
+use Rattle.rules.specs.Transcript.{InputLine, readInput}
 use Rattle.rules.proofs.ReadBack.{untabbed, fields-tabbed, numbers-decimal, length-tabbed}
 use Rattle.promises.specs.Demand1.{isEmpty}
 use Rattle.promises.specs.Started.{Since}
@@ -41,15 +43,18 @@ tab-first : (after : List ℕ) → any isEmpty (fields (tab ∷ after)) ≡ true
 unfolding any fields fieldsFrom
 tab-first after = refl
 
--- so a line with two tabs together is Malformed, and one with a tab first or last, whatever stands around them
-pub two-tabs : (before after : List ℕ) → readLine (before ++ (tab ∷ tab ∷ after)) ≡ Line.Malformed
-two-tabs before after = promises .demand1 .emptyFields .someField (before ++ (tab ∷ tab ∷ after)) (unfold fields in tab-before (tab ∷ after) (tab-first after) [] before)
+abbrev finished : List ℕ → InputLine
+finished s = record { text = s; finished = true }
 
-pub first-tab : (after : List ℕ) → readLine (tab ∷ after) ≡ Line.Malformed
-first-tab after = promises .demand1 .emptyFields .someField (tab ∷ after) (tab-first after)
+-- so a line with two tabs together is no call, nor is one with a tab first or last, whatever stands around them
+pub two-tabs : (before after : List ℕ) (c : Call) → readInput (finished (before ++ (tab ∷ tab ∷ after))) ≢ Line.Reads c
+two-tabs before after = promises .demand1 .whichField .noCall (finished (before ++ (tab ∷ tab ∷ after))) (unfold fields in tab-before (tab ∷ after) (tab-first after) [] before)
 
-pub last-tab : (before : List ℕ) → readLine (before ++ (tab ∷ [])) ≡ Line.Malformed
-last-tab before = promises .demand1 .emptyFields .someField (before ++ (tab ∷ [])) (unfold fields fieldsFrom any in tab-before [] refl [] before)
+pub first-tab : (after : List ℕ) (c : Call) → readInput (finished (tab ∷ after)) ≢ Line.Reads c
+first-tab after = promises .demand1 .whichField .noCall (finished (tab ∷ after)) (tab-first after)
+
+pub last-tab : (before : List ℕ) (c : Call) → readInput (finished (before ++ (tab ∷ []))) ≢ Line.Reads c
+last-tab before = promises .demand1 .whichField .noCall (finished (before ++ (tab ∷ []))) (unfold fields fieldsFrom any in tab-before [] refl [] before)
 
 -- ---- calls and lines
 -- the word of a call has no tab, and with four numbers that fit it is a short line
@@ -100,8 +105,8 @@ written-read c f = promises .demand1 .reading .exactly (writeLine c) c .1 (recor
         (omega (arith, leb-true (length (formOf c .word)) 8 (word-short c), leb-true (length (numbersOf c)) 4 (few-numbers c), length-tabbed (numbersOf c) f))
 
 -- the numbers of a call that is read are those of the fields after the word, as many and in the same order
-pub none-missing : (s : List ℕ) (c : Call) → readLine s ≡ Line.Reads c → numbers (drop 1 (fields s)) ≡ Numbers.allRead (numbersOf c)
+pub none-missing : (s : List ℕ) (c : Call) → readLine s ≡ Line.Reads c → wanted 1 (length (numbersOf c)) (drop 1 (fields s)) ≡ Numbers.allRead (numbersOf c)
 none-missing s c h =
     let w : IsWritten s c = promises .demand1 .reading .exactly s c .0 h in
     let parted : fields s ≡ formOf c .word ∷ map decimal (numbersOf c) = rw (w .text) (unfold writeLine in fields-tabbed (formOf c .word) (numbersOf c) (word-untabbed c) (w .numbers)) in
-    ap (λ (fs : List (List ℕ)). numbers (drop 1 fs)) parted ∙ numbers-decimal (numbersOf c) (w .numbers)
+    ap (λ (fs : List (List ℕ)). wanted 1 (length (numbersOf c)) (drop 1 fs)) parted ∙ numbers-decimal 1 (numbersOf c) (w .numbers)

@@ -6,8 +6,8 @@ use Rattle.rules.proofs.Books.{nothing-changed}
 use Rattle.promises.proofs.Leaves.{leaves}
 use Rattle.promises.proofs.Lines.{answers}
 use Rattle.promises.proofs.Cut.{cut}
-use Rattle.promises.proofs.EmptyFields.{empty-fields}
 use Rattle.promises.proofs.Reading.{reading}
+use Rattle.promises.proofs.WhichField.{which-field}
 
 -- the whole of demand 1
 pub demand1 : Demand1
@@ -23,6 +23,6 @@ demand1 =
       lines = line-answered;
       cut = cut;
       answers = answers;
-      emptyFields = empty-fields;
+      whichField = which-field;
       reading = reading;
     }

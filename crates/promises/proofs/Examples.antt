@@ -3,10 +3,10 @@ use mathlib.Core.Path.{_≡_, refl}
 use mathlib.Core.Bool.{true, not}
 use mathlib.Core.List.{[], _∷_, _++_, map}
 use lib.ListN.{getD, take, drop, replicate}
-use Rattle.promises.specs.Types.{Line}
+use Rattle.promises.specs.Types.{Line, Refusal, Answer}
 use Rattle.rules.specs.Lists.{any, those, bytes}
 use Rattle.rules.specs.State.{firstHolders, emptyBook, inboxOf, historyOf}
-use Rattle.rules.specs.Replies.{plain}
+use Rattle.rules.specs.Replies.{told, plain}
 use Rattle.rules.specs.Effects.{balance, holder, total}
 use Rattle.rules.specs.Frame.{inFrame}
 use Rattle.rules.specs.History.{provenanceOf, historyInFrame}
@@ -14,7 +14,7 @@ use Rattle.rules.specs.Lots.{noLot}
 use Rattle.rules.specs.Answer.{answer, traceAnswer, provenanceAnswer}
 use Rattle.rules.specs.Runs.{run, deposits, sends, settlements, sentAfter}
 use Rattle.rules.specs.Sheet.{acceptedDeposits, settledSum, unclaimedSum, balancesSum, outboxSum, chainTotal}
-use Rattle.rules.specs.Lines.{fields, Numbers, numbers, readLine, formOf, numbersOf, writeLine}
+use Rattle.rules.specs.Lines.{fields, Numbers, wanted, readLine, formOf, numbersOf, writeLine}
 use Rattle.rules.specs.Transcript.{linesFrom, answerLine, transcript}
 use Rattle.rules.specs.Cases.{deposit, transfer, withdraw, trace, with300}
 use Rattle.rules.proofs.Compute.{compute}
@@ -22,7 +22,7 @@ use Rattle.lots.specs.Traces.{worth, coins}
 use Rattle.promises.specs.Demand1.{applying, isEmpty}
 use Rattle.promises.specs.Demand2.{heldAs, heldAfter, holderBy, nonceOf, isSend, sendCalls, waitingIn, claiming, claims, isClaimed, made, traced, coinsAs, coinsAfter, coinsIn}
 use Rattle.promises.specs.Demand3Examples.{deposited, payment}
-use Rattle.promises.specs.Examples.{oneOfEach, written, threeLines, absent, nought, transferLine, nearly, threePayments, worked, secondClaimed, workedRecords, threeSends, piece}
+use Rattle.promises.specs.Examples.{oneOfEach, written, threeLines, absent, nought, transferLine, nearly, nearlyFields, threePayments, worked, secondClaimed, workedRecords, threeSends, piece}
 
 -- ======== demand 1
 -- a reply of each kind; 1 is a line's, and 20 is given where the lent tables are short (below)
@@ -46,7 +46,7 @@ unfolding compute
 refused-here = (refl, refl)
 
 -- the same of lines: one that reads as that call, and one that reads as none
-pub line-refused : map (λ s. answerLine (run emptyBook with300) (readLine (bytes s)) .reply) ("withdraw\t2\t3\t301\t77" ∷ "withdraw 2 3 301 77" ∷ []) ≡ plain 14 ∷ plain 1 ∷ []
+pub line-refused : map (λ s. answerLine (run emptyBook with300) (readLine (bytes s)) .reply) ("withdraw\t2\t3\t301\t77" ∷ "withdraw 2 3 301 77" ∷ []) ≡ plain 14 ∷ told (Answer.Refused (Refusal.Malformed 0)) ∷ []
 unfolding compute
 line-refused = refl
 
@@ -59,16 +59,16 @@ pub cut-here : linesFrom [] (bytes written) ≡ threeLines
 unfolding compute
 cut-here = refl
 
-pub answered-here : transcript (bytes written) ≡ bytes "1\t0\n2\t14\n3\t1\nend\t1\t2\n"
+pub answered-here : transcript (bytes written) ≡ bytes "1\t0\n2\t14\n3\t1\t1\nend\t1\t2\n"
 unfolding compute
 answered-here = refl
 
--- an absent number is refused, with 1 ..
+-- an absent number is refused, with 1 and the number of its field ..
 pub empty-field : any isEmpty (fields (bytes "deposit\t1\t3\t\t2")) ≡ true
 unfolding compute
 empty-field = refl
 
-pub absent-refused : map (λ s. answerLine emptyBook (readLine (bytes s)) .reply) absent ≡ plain 1 ∷ plain 1 ∷ plain 1 ∷ []
+pub absent-refused : map (λ s. answerLine emptyBook (readLine (bytes s)) .reply) absent ≡ map (λ k. told (Answer.Refused (Refusal.Malformed k))) (3 ∷ 4 ∷ 4 ∷ [])
 unfolding compute
 absent-refused = refl
 
@@ -77,7 +77,7 @@ pub nought-read : (readLine (bytes nought) ≡ Line.Reads (deposit 1 3 500 0)) �
 unfolding compute
 nought-read = (refl, refl)
 
-pub fields-read : numbers (drop 1 (fields (bytes nought))) ≡ Numbers.allRead (1 ∷ 3 ∷ 500 ∷ 0 ∷ [])
+pub fields-read : wanted 1 4 (drop 1 (fields (bytes nought))) ≡ Numbers.allRead (1 ∷ 3 ∷ 500 ∷ 0 ∷ [])
 unfolding compute
 fields-read = refl
 
@@ -86,7 +86,7 @@ pub written-here : (writeLine (transfer 2 4 3 200) ≡ bytes transferLine) × (r
 unfolding compute formOf numbersOf writeLine
 written-here = (refl, refl)
 
-pub nearly-refused : map (λ s. readLine (bytes s)) nearly ≡ map (λ s. Line.Malformed) nearly
+pub nearly-refused : map (λ s. readLine (bytes s)) nearly ≡ map Line.Malformed nearlyFields
 unfolding compute
 nearly-refused = refl
 

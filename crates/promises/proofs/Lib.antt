@@ -8,9 +8,9 @@ pub mod NoneFull
 pub mod LineFeeds
 pub mod Lines
 pub mod Cut
-pub mod EmptyFields
 pub mod Spelled
 pub mod Reading
+pub mod WhichField
 pub mod Demand1
 pub mod Lists
 pub mod Cells

@@ -10,7 +10,7 @@ use Rattle.promises.specs.Types.{Deposit, Answer, ClaimFields, Call}
 use Rattle.rules.specs.Limits.{within, assetCount, domainCount}
 use Rattle.rules.specs.Lists.{all, any, those}
 use Rattle.rules.specs.State.{State, Book, Empty, view}
-use Rattle.rules.specs.Replies.{Reply, numberOf, told, smallest}
+use Rattle.rules.specs.Replies.{Reply, toldRefusal, told, smallest}
 use Rattle.rules.specs.Effects.{balance, matches}
 use Rattle.rules.specs.History.{statement}
 use Rattle.rules.specs.Refusals.{table, refusals, fulls}
@@ -129,7 +129,7 @@ member-answered m b b′ e e′ cs cs′ alike c h n n′ =
 
 -- no other refusal has the number of a full table
 none-says : (m : ℕ) (s : State) (c : Call) → asks m c ≡ true → all saysNot (0 ∷ map (λ (r : ℕ × Bool). r .0) (refusals s c)) ≡ true
-unfolding asks refusals all numberOf
+unfolding asks refusals all toldRefusal
 none-says m s (Call.Deposit d) h = absurd (false≢true h)
 none-says m s (Call.Claim c) h = refl
 none-says m s (Call.Transfer t) h = refl

@@ -11,7 +11,7 @@ use Rattle.promises.specs.Types.{Call}
 use Rattle.rules.specs.Limits.{within, historyRows, outboxRows}
 use Rattle.rules.specs.Lists.{all}
 use Rattle.rules.specs.State.{State, payments}
-use Rattle.rules.specs.Replies.{numberOf, smaller, smallest}
+use Rattle.rules.specs.Replies.{toldRefusal, smaller, smallest}
 use Rattle.rules.specs.Refusals.{full, fulls}
 use Rattle.rules.specs.Views.{asks, hasRoom}
 use Rattle.rules.proofs.Tests.{both, not-holds, within-true, numbered, noneApplies, nothing-smallest}
@@ -95,7 +95,7 @@ abbrev isFull : ℕ → Bool
 isFull n = eqb n 0 || within 16 17 n
 
 fulls-are : (s : State) (c : Call) (m : ℕ) → asks m c ≡ true → all isFull (0 ∷ map (λ (r : ℕ × Bool). r .0) (fulls s c)) ≡ true
-unfolding asks fulls all numberOf
+unfolding asks fulls all toldRefusal
 fulls-are s (Call.Deposit d) m a = absurd (false≢true a)
 fulls-are s (Call.Claim c) m a = refl
 fulls-are s (Call.Transfer t) m a = refl

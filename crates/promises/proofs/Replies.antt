@@ -10,7 +10,7 @@ use borrow.Author.Tests.{leb-true, eq-eqb, eqb-true, leb-false}
 use Rattle.promises.specs.Types.{Call, Line}
 use Rattle.rules.specs.Lists.{all, any}
 use Rattle.rules.specs.State.{Book}
-use Rattle.rules.specs.Replies.{numberOf, told, smaller, smallest}
+use Rattle.rules.specs.Replies.{toldRefusal, told, smaller, smallest}
 use Rattle.rules.specs.Refusals.{refusals, fulls, traceRefusals}
 use Rattle.rules.specs.Answer.{asked, frameTest, replyNumber, answer}
 use Rattle.rules.specs.Transcript.{answerLine}
@@ -60,7 +60,7 @@ one-passes p n (m ∷ ns) h k = go (eqb n m) refl h (one-passes p n ns)
 
 -- a call's possible numbers are 0 and those of its table
 own-numbers : (b : Book) (c : Call) → 0 ∷ map (λ (r : ℕ × Bool). r .0) (asked b c) ≡ possible c
-unfolding frameTest refusals fulls traceRefusals numberOf possible
+unfolding frameTest refusals fulls traceRefusals toldRefusal possible
 own-numbers b (Call.Deposit d) = refl
 own-numbers b (Call.Claim c) = refl
 own-numbers b (Call.Transfer t) = refl
@@ -106,6 +106,6 @@ refused b c h = refused-leaves b c (rw (reply-number b c) at h)
 
 -- a line that is no call is answered 1, and changes nothing either
 pub line-answered : (b : Book) (l : Line) → LineAnswered b l
-unfolding answerLine told numberOf
-line-answered b (Line.Reads c) = record { atMost = number-low b c; refused = refused b c }
-line-answered b Line.Malformed = record { atMost = omega arith; refused = λ h. record { book = refl; values = refl; pieces = refl } }
+unfolding answerLine told toldRefusal
+line-answered b (Line.Reads c) = record { atMost = number-low b c; book = λ h. refused b c h .book; values = λ h g. refused b c h .values; pieces = λ h. refused b c h .pieces }
+line-answered b (Line.Malformed k) = record { atMost = omega arith; book = λ h. refl; values = λ h g. absurd (g refl); pieces = λ h. refl }

@@ -74,15 +74,15 @@ decimal-value (b ∷ bs) h =
     (spelled-all b bs (within-true 1 20 (length (b ∷ bs)) l .high) (within-true 48 57 b p) q z, m)
 
 -- a field that is read as a number
-pub number-spelled : (f : List ℕ) (n : ℕ) → number f ≡ Field.Number n → (f ≡ decimal n) × (leb n highestField ≡ true)
+pub number-spelled : (k : ℕ) (f : List ℕ) (n : ℕ) → number k f ≡ Field.Number n → (f ≡ decimal n) × (leb n highestField ≡ true)
 unfolding number
-number-spelled f n h = go (readsAsNumber f) refl h
+number-spelled k f n h = go (readsAsNumber f) refl h
   where
-    go : (t : Bool) → readsAsNumber f ≡ t → cond t (Field.Number (valueAfter 0 f)) Field.NotANumber ≡ Field.Number n → (f ≡ decimal n) × (leb n highestField ≡ true)
-    go true e k =
+    go : (t : Bool) → readsAsNumber f ≡ t → cond t (Field.Number (valueAfter 0 f)) (Field.FailsAt k) ≡ Field.Number n → (f ≡ decimal n) × (leb n highestField ≡ true)
+    go true e q =
         let v : valueAfter 0 f ≡ n = cc in
         let (d, m) = decimal-value f e in
         (rw (← v, d), rw v at m)
-    go false e k =
+    go false e q =
         let z : _≡_ {A = ℕ} 0 1 = cc in
         absurd (omega arith)

@@ -11,7 +11,7 @@ use Rattle.promises.specs.Types.{Origin, Call, Answer}
 use Rattle.rules.specs.Lists.{all}
 use Rattle.rules.specs.State.{State, Book, view, historyOf}
 use Rattle.rules.specs.Limits.{memberCount, assetCount}
-use Rattle.rules.specs.Replies.{toldOrigin, numberOf, told, smallest}
+use Rattle.rules.specs.Replies.{toldOrigin, toldRefusal, told, smallest}
 use Rattle.rules.specs.Refusals.{table, refusals, fulls, traceRefusals, badMember, badAsset}
 use Rattle.rules.specs.Effects.{balance}
 use Rattle.rules.specs.Frame.{inFrame}
@@ -30,7 +30,7 @@ use Rattle.promises.specs.Started.{Started}
 -- ---- the frame
 -- no call's own table has the number 2
 no-two : (s : State) (c : Call) → all (λ n. not (eqb n 2)) (0 ∷ map (λ (r : ℕ × Bool). r .0) (table s c)) ≡ true
-unfolding all refusals fulls traceRefusals numberOf
+unfolding all refusals fulls traceRefusals toldRefusal
 no-two s (Call.Deposit d) = refl
 no-two s (Call.Claim c) = refl
 no-two s (Call.Transfer t) = refl
@@ -68,7 +68,7 @@ history-passes b r = r .agreed .replayed .passes
 
 -- a started book is in frame and never answers 2
 pub in-frame : (b : Book) → Started b → InFrame b
-unfolding replyNumber traceAnswer traceNumber provenanceAnswer provenanceNumber traceRefusals told toldOrigin numberOf all
+unfolding replyNumber traceAnswer traceNumber provenanceAnswer provenanceNumber traceRefusals told toldOrigin toldRefusal all
 in-frame b r =
     let h : historyInFrame (historyOf b) ≡ true = history-passes b r in
     let tested : badHistory b .1 ≡ false = rw (r .frame, h) in

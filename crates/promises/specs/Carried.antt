@@ -16,7 +16,7 @@ use Rattle.runner.specs.Kept.{Kept, onPage, Begins, RunSome}
 -- the call that a line reads as; a Malformed line is none
 unfoldable pub callOf : Line → List Call
 callOf (Line.Reads c) = c ∷ []
-callOf Line.Malformed = []
+callOf (Line.Malformed k) = []
 
 -- the calls that these lines read as, in order
 unfoldable pub callsOf : List InputLine → List Call

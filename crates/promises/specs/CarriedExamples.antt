@@ -2,6 +2,7 @@
 use Prim.Native.Nat.{ℕ, _-_}
 use mathlib.Core.List.{List, _++_}
 use lib.ListN.{length, replicate}
+use Rattle.rules.specs.Limits.{mostHeld}
 use Rattle.rules.specs.Lists.{bytes}
 use Rattle.runner.specs.Machine.{Machine}
 use Rattle.runner.specs.Kept.{Kept}
@@ -24,6 +25,6 @@ keptAs m text =
       inbox = m .book .inbox;
       outbox = m .book .outbox;
       history = m .book .history;
-      hold = m .held ++ replicate (121 - length (m .held)) 0;
+      hold = m .held ++ replicate (mostHeld - length (m .held)) 0;
       out = text ++ replicate (100 - length text) 0;
     }

@@ -72,7 +72,7 @@ absent = "deposit\t1\t3\t\t2" ∷ "deposit\t1\t3\t500\t" ∷ "deposit\t1\t3\t500
 abbrev pub nought : String
 nought = "deposit\t1\t3\t500\t0"
 
--- a transfer as it is written; and nearly so, each in one way: another word, a sign, a leading zero, a number too high, two fields in one, a blank at the end
+-- a transfer as it is written; and nearly so, each in one way: another word, a sign, a leading zero, a number too high, two fields in one, a blank at the end; and the field that each tells
 abbrev pub transferLine : String
 transferLine = "transfer\t2\t4\t3\t200"
 
@@ -85,6 +85,9 @@ nearly =
     ∷ "transfer\t2\t4\t3 200"
     ∷ "transfer\t2\t4\t3\t200 "
     ∷ []
+
+abbrev pub nearlyFields : List ℕ
+nearlyFields = 0 ∷ 4 ∷ 4 ∷ 4 ∷ 3 ∷ 4 ∷ []
 
 -- ======== demand 2
 -- two members claim, one pays the other, both pay out, a domain is granted twice, and one deposit stays unclaimed; one call is refused

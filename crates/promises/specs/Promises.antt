@@ -1,7 +1,7 @@
 -- What is promised, in the order of the demands, from top to bottom. Each promise is said in words and then exactly; the words that it cites are those of the rules (crate rules; what an accepted call rests on: its specs/Facts), of traces (crate lots), of the book runner (crates steps and runner), and of Demand1, Demand2, Started and Carried beside this page.
 use Prim.Native.Nat.{ℕ, _+_, _≤_, _<_}
 use mathlib.Core.Path.{_≡_}
-use mathlib.Core.Logic.{_≢_, _↔_}
+use mathlib.Core.Logic.{_≢_, _↔_, _⊎_}
 use mathlib.Core.Bool.{true, false, not, _&&_, _||_}
 use mathlib.Core.List.{List, [], _∷_, _++_, map}
 use lib.Dec.{leb, eqb}
@@ -12,7 +12,7 @@ use Rattle.rules.specs.Limits.{memberCount, assetCount, highestField, mostLines
 use Rattle.rules.specs.Lists.{all, any, joined, those}
 use Rattle.rules.specs.Tables.{editedTable, depositShape, paymentShape, recordShape}
 use Rattle.rules.specs.State.{Book, Empty, view, deskOf, firstHolders, emptyBook}
-use Rattle.rules.specs.Replies.{told, plain, Reply}
+use Rattle.rules.specs.Replies.{told, Reply}
 use Rattle.rules.specs.Effects.{effect, edits, changesNothing, balance, holder, total, oldest, recordsOf}
 use Rattle.rules.specs.Frame.{inFrame}
 use Rattle.rules.specs.History.{provenanceOf, withdrawals, historyInFrame}
@@ -21,13 +21,13 @@ use Rattle.rules.specs.Answer.{Outcome, answer, traceAnswer, provenanceAnswer}
 use Rattle.rules.specs.Runs.{run, accepted, deposits, sends, settlements, sentAfter}
 use Rattle.rules.specs.Sheet.{upFrom, acceptedDeposits, settledSum, unclaimedSum, balancesSum, outboxSum, BalanceSheet, chainTotal}
 use Rattle.rules.specs.Views.{seenOutside, outsideView, seenBy, shownTo, memberView, asks, hasRoom}
-use Rattle.rules.specs.Lines.{fields, readLine, numbersOf, writeLine}
+use Rattle.rules.specs.Lines.{tab, fields, readLine, numbersOf, writeLine}
 use Rattle.rules.specs.Transcript.{InputLine, linesFrom, inputLines, readInput, answerLine, replyText, endText, transcript}
 use Rattle.lots.specs.Traces.{worth, isPositive, coins, beforePayment}
 use Rattle.runner.specs.Machine.{start, writes, closing, writesAll}
 use Rattle.runner.specs.Feeding.{Ready}
 use Rattle.runner.specs.Kept.{Kept, bookIn, machineIn, onPage, Closed}
-use Rattle.promises.specs.Demand1.{possible, isOneOf, applying, outcomes, replyTexts, doneCount, otherCount, answered, lineFeeds, asRead, isEmpty}
+use Rattle.promises.specs.Demand1.{possible, isOneOf, applying, outcomes, replyTexts, doneCount, otherCount, answered, lineFeeds, asRead, fieldAt, isEmpty, countOf, FieldReads, FieldFails, overLongOrUnfinished}
 use Rattle.promises.specs.Demand2.{holderBy, nonceOf, queued, sendCalls, waitingIn, noPayment, claims, isClaimed, claimsLot, made, recordOf, paymentBy, traced, coinsIn}
 use Rattle.promises.specs.Started.{Started, Since}
 use Rattle.promises.specs.Carried.{callsOf, callsIn, ended, after, Beginning, Chain, Steps}
@@ -57,10 +57,12 @@ pub record Leaves (b : Book) (c : Call) : Type 0 where
   pub outbox : answer b c .book .outbox ≡ editedTable paymentShape (edits c (view b) .outbox) (b .desk .counts .payments) (b .outbox)
   pub history : answer b c .book .history ≡ editedTable recordShape (edits c (view b) .history) (b .desk .counts .records) (b .history)
 
--- the line, read as a call or not, gets a number up to 21, and changes nothing unless that is 0
+-- the line, read as a call or not, gets a number up to 21, and unless that is 0 it leaves the book as found, and neither pieces are told nor values but the field of a Malformed
 pub record LineAnswered (b : Book) (l : Line) : Type 0 where
   pub atMost : answerLine b l .reply .number ≤ 21
-  pub refused : answerLine b l .reply .number ≢ 0 → Unchanged b (answerLine b l)
+  pub book : answerLine b l .reply .number ≢ 0 → answerLine b l .book ≡ b
+  pub values : answerLine b l .reply .number ≢ 0 → answerLine b l .reply .number ≢ 1 → answerLine b l .reply .values ≡ []
+  pub pieces : answerLine b l .reply .number ≢ 0 → answerLine b l .pieces ≡ []
 
 -- these lines are these bytes, cut after each of so many line feeds: put together again they are the bytes, none holds a line feed, as many are finished as there are line feeds, and one more that has a byte may follow
 pub record CutInto (read : List ℕ) (feeds : ℕ) (ls : List InputLine) : Type 0 where
@@ -79,10 +81,30 @@ pub record Answers (input : List ℕ) : Type 0 where
   pub oneLine : (n : ℕ) (o : Outcome) → lineFeeds (replyText n o) ≡ 1
   pub lines : lineFeeds (transcript input) ≡ length (inputLines input) + 1
 
--- a line one of whose fields is empty is Malformed, whatever stands around it: one with two tabs together is such a line, or with a tab first or last; a Malformed line gets 1, on every book
-pub record EmptyFields : Type 0 where
-  pub someField : (s : List ℕ) → any isEmpty (fields s) ≡ true → readLine s ≡ Line.Malformed
-  pub malformed : (b : Book) → answerLine b Line.Malformed .reply ≡ plain 1
+-- field k is the first that does not read: every field before it reads
+pub record FirstFails (fs : List (List ℕ)) (k : ℕ) : Type 0 where
+  pub before : (i : ℕ) → i < k → FieldReads fs i
+  pub here : FieldFails fs k
+
+-- every field that the word wants reads, there is no other, and with the word they are k
+pub record AllRead (fs : List (List ℕ)) (k : ℕ) : Type 0 where
+  pub each : (i : ℕ) → i < k → FieldReads fs i
+  pub wanted : k ≡ countOf fs + 1
+  pub count : k ≡ length fs
+
+-- "Say which field": what is told of a line that is no call
+pub record WhichField : Type 0 where
+  -- the fields are the line, parted at its tabs: each put after a tab, they are a tab and the line, and none has a tab
+  pub parted : (s : List ℕ) → joined (λ f. tab ∷ f) (fields s) ≡ tab ∷ s
+  pub noTabs : (s : List ℕ) → all (λ f. all (λ b. not (eqb b tab)) f) (fields s) ≡ true
+  -- the field is exactly the first that does not read or, where all read and the line is over-long or unfinished, their count with the word
+  pub exactly : (l : InputLine) (k : ℕ) → readInput l ≡ Line.Malformed k ↔ FirstFails (fields (l .text)) k ⊎ (AllRead (fields (l .text)) k × (overLongOrUnfinished l ≡ true))
+  -- it is told after reply 1, on every book
+  pub told : (b : Book) (k : ℕ) → answerLine b (Line.Malformed k) .reply ≡ record { number = 1; values = k ∷ [] }
+  -- an empty field before which every field reads is told by its own number: the absent amount of a notice is named
+  pub emptyField : (l : InputLine) (k : ℕ) → k < length (fields (l .text)) → isEmpty (fieldAt (fields (l .text)) k) ≡ true → ((i : ℕ) → i < k → FieldReads (fields (l .text)) i) → readInput l ≡ Line.Malformed k
+  -- and a line with an empty field is no call, whatever stands around it: one with two tabs together is such a line, or with a tab first or last
+  pub noCall : (l : InputLine) → any isEmpty (fields (l .text)) ≡ true → (c : Call) → readInput l ≢ Line.Reads c
 
 -- the line is this call written out, its word and then its numbers, each after a tab; it has at most 120 bytes, and no number is above the highest of a field
 pub record IsWritten (s : List ℕ) (c : Call) : Type 0 where
@@ -90,10 +112,10 @@ pub record IsWritten (s : List ℕ) (c : Call) : Type 0 where
   pub short : length s ≤ mostBytes
   pub numbers : all (λ n. leb n highestField) (numbersOf c) ≡ true
 
--- a finished line is read, and an unfinished one is Malformed; and a line reads as a call exactly if it is that call written out, so any other line is Malformed: no number is read as nought that is not there, and no word or number in two ways
+-- a finished line is read, and an unfinished one is no call; and a line reads as a call exactly if it is that call written out, so any other line is Malformed: no number is read as nought that is not there, and no word or number in two ways
 pub record Reading : Type 0 where
   pub finished : (s : List ℕ) → readInput (record { text = s; finished = true }) ≡ readLine s
-  pub unfinished : (s : List ℕ) → readInput (record { text = s; finished = false }) ≡ Line.Malformed
+  pub unfinished : (s : List ℕ) (c : Call) → readInput (record { text = s; finished = false }) ≢ Line.Reads c
   pub exactly : (s : List ℕ) (c : Call) → readLine s ≡ Line.Reads c ↔ IsWritten s c
 
 -- the library's trace, lent any two tables: it gets 0, 2, 20 or 21, and refused it tells no values and leaves both tables as found
@@ -123,8 +145,8 @@ pub record Demand1 : Type 0 where
   pub cut : (input : List ℕ) → CutInto input (lineFeeds input) (linesFrom [] input)
   -- and every one of them up to line 100,000 is answered, once and in order
   pub answers : (input : List ℕ) → Answers input
-  -- an absent number is refused
-  pub emptyFields : EmptyFields
+  -- an absent number is refused, and told by the number of its field
+  pub whichField : WhichField
   -- never read as nought
   pub reading : Reading
 

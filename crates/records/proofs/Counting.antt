@@ -17,7 +17,7 @@ use Rattle.rules.specs.State.{Book, firstHolders, historyOf}
 use Rattle.rules.specs.Effects.{balance}
 use Rattle.rules.specs.Frame.{inFrame}
 use Rattle.rules.specs.History.{Kind, kindOf, byFirst, bySecond, countedAs, counted, provenance, provenanceOf, Standing as Replayed, standingFrom, standingAfter, fits, replays, historyInFrame}
-use Rattle.rules.specs.Replies.{numberOf, toldOrigin, smallest}
+use Rattle.rules.specs.Replies.{toldRefusal, toldOrigin, smallest}
 use Rattle.rules.specs.Answer.{provenanceNumber, provenanceAnswer}
 use Rattle.rules.proofs.Laying.{length-rows, rows-split}
 use Rattle.rules.proofs.Tests.{both, all-at}
@@ -170,18 +170,18 @@ member-first false = refl
 
 module _ (b : Book) (m a : ℕ) where
   pub origin-book : inFrame b && historyInFrame (historyOf b) ≡ false → toldOrigin (Origin.Refused Refusal.BadBook) ≡ provenanceAnswer b m a
-  unfolding toldOrigin provenanceAnswer provenanceNumber numberOf
+  unfolding toldOrigin provenanceAnswer provenanceNumber toldRefusal
   origin-book e = rw (not-both (inFrame b) (historyInFrame (historyOf b)), e, book-first (not (isMember m)) (not (isAsset a)))
 
   pub origin-member : inFrame b && historyInFrame (historyOf b) ≡ true → isMember m ≡ false → toldOrigin (Origin.Refused Refusal.BadMember) ≡ provenanceAnswer b m a
-  unfolding toldOrigin provenanceAnswer provenanceNumber numberOf
+  unfolding toldOrigin provenanceAnswer provenanceNumber toldRefusal
   origin-member e p = rw (not-both (inFrame b) (historyInFrame (historyOf b)), e, p, member-first (not (isAsset a)))
 
   pub origin-asset : inFrame b && historyInFrame (historyOf b) ≡ true → isMember m ≡ true → isAsset a ≡ false → toldOrigin (Origin.Refused Refusal.BadAsset) ≡ provenanceAnswer b m a
-  unfolding toldOrigin provenanceAnswer provenanceNumber numberOf smallest
+  unfolding toldOrigin provenanceAnswer provenanceNumber toldRefusal smallest
   origin-asset e p q = rw (not-both (inFrame b) (historyInFrame (historyOf b)), e, p, q)
 
   pub origin-amount : inFrame b && historyInFrame (historyOf b) ≡ true → isMember m ≡ true → isAsset a ≡ true → (n : ℕ) → n ≡ provenanceOf m a (historyOf b)
       → toldOrigin (Origin.Amount n) ≡ provenanceAnswer b m a
-  unfolding toldOrigin provenanceAnswer provenanceNumber numberOf smallest
+  unfolding toldOrigin provenanceAnswer provenanceNumber toldRefusal smallest
   origin-amount e p q n f = rw (not-both (inFrame b) (historyInFrame (historyOf b)), e, p, q, f)

@@ -8,7 +8,7 @@ use Rattle.rules.specs.declared.answers.Answer.{Answer}
 use Rattle.rules.specs.declared.answers.Refusal.{Refusal}
 use Rattle.rules.specs.Limits.{historyRows}
 use Rattle.rules.specs.State.{Book, view}
-use Rattle.rules.specs.Replies.{numberOf, told, plain, smallest}
+use Rattle.rules.specs.Replies.{toldRefusal, told, plain, smallest}
 use Rattle.rules.specs.Refusals.{table, refusals, fulls, traceRefusals}
 use Rattle.rules.specs.Frame.{inFrame}
 use Rattle.rules.specs.Answer.{badBook, frameTest, replyNumber}
@@ -18,7 +18,7 @@ use Rattle.records.proofs.Counting.{history-whole}
 
 -- out of frame, whatever the call
 bad-book : (b : Book) (c : Call) → inFrame b ≡ false → frameTest b c ≡ (2, true)
-unfolding frameTest numberOf
+unfolding frameTest toldRefusal
 bad-book b (Call.Deposit d) f = rw f
 bad-book b (Call.Claim c) f = rw f
 bad-book b (Call.Transfer t) f = rw f
@@ -30,7 +30,7 @@ bad-book b (Call.Sign g) f = rw f
 bad-book b (Call.Trace n) f = rw f
 
 pub unframed-told : (b : Book) (c : Call) → inFrame b ≡ false → told (Answer.Refused Refusal.BadBook) ≡ plain (replyNumber b c)
-unfolding told numberOf
+unfolding told toldRefusal
 unframed-told b c f = rw (unframed-number b c (bad-book b c f))
 
 -- in frame, a call whose frame's test is of the book alone

@@ -1,14 +1,22 @@
 -- What is written for a reply: its line's start, its pieces, and how much room they want.
 use Prim.Native.Nat.{ℕ}
-use mathlib.Core.Path.{_≡_}
+use mathlib.Core.Path.{_≡_, ap}
 use mathlib.Core.List.{List, [], _∷_, _++_, append-assoc, append-nil}
+use mathlib.Core.Bool.{not}
+use lib.Dec.{T}
+use mir.Val.{hasKey}
+use types.Run.{OneOf, miss}
+use denote.Enum.Declared.{tagOf}
 use Rattle.rules.specs.declared.rows.Lot.{Lot}
+use Rattle.rules.specs.declared.answers.Refusal.{Refusal}
+use Rattle.rules.proofs.answers.Refusal as declared
 use Rattle.rules.specs.Lists.{joined}
 use Rattle.rules.specs.Lines.{lineFeed, decimal, tabbed}
-use Rattle.rules.specs.Replies.{Reply}
+use Rattle.rules.specs.Replies.{Reply, toldRefusal}
 use Rattle.rules.specs.Answer.{Outcome}
 use Rattle.rules.specs.Transcript.{pieceValues, replyText}
 use Rattle.rules.proofs.Laying.{joined-append}
+use Rattle.rules.proofs.Told.{Telling}
 use Rattle.pages.specs.Writing.{Page, put}
 use Rattle.pages.proofs.PageLaws.{put-then, put-values, tabbed-append}
 use Rattle.replies.specs.Writing.{replyStart, replyLine}
@@ -43,3 +51,9 @@ pub put-pieces : (p : Page) {q r : Page} (ls : List Lot) (l : Lot) → q ≡ put
     → r ≡ put p (tabbed (joined pieceValues (ls ++ (l ∷ []))))
 unfolding joined
 put-pieces p ls l e f = rw (joined-append pieceValues ls (l ∷ [])) (put-values p (joined pieceValues ls) (pieceValues l) e f)
+
+-- a refusal of any tag but the first, which is Malformed's, tells its number alone
+pub number-alone : (keys : List ℕ) → T (not (hasKey keys 0)) → {r : Refusal} → Telling r → OneOf keys (tagOf declared.the-type r) → toldRefusal r .values ≡ []
+unfolding toldRefusal
+number-alone keys h (Telling.field k) e = absurd (miss keys 0 h e)
+number-alone keys h (Telling.alone q) e = ap (λ (x : Reply). x .values) q

@@ -11,7 +11,7 @@ use rules::rows::Lot;
 use rules::rows::Payment;
 ghost use mathlib.Core.Path.{_≡_};
 ghost use mathlib.Core.List.{[], _∷_, _++_};
-ghost use Rattle.rules.specs.Replies.{numberOf, told};
+ghost use Rattle.rules.specs.Replies.{toldRefusal, numberOf, told};
 ghost use Rattle.rules.specs.Lines.{decimal, tabbed};
 ghost use Rattle.rules.specs.Transcript.{pieceValues, endText};
 ghost use Rattle.pages.specs.Writing.{page, put};
@@ -54,8 +54,18 @@ pub fn put_answer(out: &mut [u8], at: usize, line: u64, a: Answer) -> usize
         Answer::Done => p,
         Answer::Sent(x) => put_payment(out, p, x),
         Answer::Traced(n) => put_value(out, p, n as u64),
-        Answer::Refused(_) => p,
+        Answer::Refused(why) => put_field(out, p, why),
     }
+}
+
+// "The runner adds the field number after reply 1."
+fn put_field(out: &mut [u8], at: usize, why: Refusal) -> usize
+    ensures { λ r. ⌜ page (now (out .exit)) r ≡ put (page (now (out .entry)) at) (tabbed (toldRefusal why .values)) ⌝ }
+{
+    let Refusal::Malformed(k) = why else {
+        return at;
+    };
+    put_value(out, at, k)
 }
 
 // The whole line of an answer without pieces.
@@ -93,7 +103,7 @@ pub fn refusal_number(why: Refusal) -> u64
     ensures { λ r. ⌜ r ≡ numberOf why ⌝ }
 {
     match why {
-        Refusal::Malformed => 1,
+        Refusal::Malformed(_) => 1,
         Refusal::BadBook => 2,
         Refusal::BadMember => 3,
         Refusal::BadAsset => 4,

@@ -12,7 +12,7 @@ use Rattle.rules.specs.Types.{Nonce, Deposit, ClaimFields, TransferField
 use Rattle.rules.specs.Limits.{ceiling, highestNumber, inboxRows, outboxRows, historyRows}
 use Rattle.rules.specs.Lists.{all, any}
 use Rattle.rules.specs.State.{State, Book, view, historyOf, payments}
-use Rattle.rules.specs.Replies.{Reply, numberOf, told, smaller, smallest, if-done}
+use Rattle.rules.specs.Replies.{Reply, toldRefusal, told, smaller, smallest, if-done}
 use Rattle.rules.specs.Refusals.{table, refusals, fulls, traceRefusals, full}
 use Rattle.rules.specs.Effects.{effect, balance, holder, matches, total, oldest}
 use Rattle.rules.specs.Frame.{inFrame}
@@ -56,7 +56,7 @@ by-number b c e = record { done = reply-number b c ∙ e }
 -- ---- what acceptance gives
 -- every number in a call's table, BadBook's too, is a refusal's
 pub table-numbered : (b : Book) (c : Call) → numbered (asked b c) ≡ true
-unfolding all frameTest refusals fulls traceRefusals numberOf
+unfolding all frameTest refusals fulls traceRefusals toldRefusal
 table-numbered b (Call.Deposit d) = refl
 table-numbered b (Call.Claim c) = refl
 table-numbered b (Call.Transfer t) = refl
@@ -68,7 +68,7 @@ table-numbered b (Call.Sign g) = refl
 table-numbered b (Call.Trace n) = refl
 
 pub refusals-numbered : (s : State) (c : Call) → numbered (refusals s c) ≡ true
-unfolding all refusals traceRefusals numberOf
+unfolding all refusals traceRefusals toldRefusal
 refusals-numbered s (Call.Deposit d) = refl
 refusals-numbered s (Call.Claim c) = refl
 refusals-numbered s (Call.Transfer t) = refl
@@ -288,7 +288,7 @@ state-accepted b c a = state-after b c ∙ rw (accepted-number b c a)
 -- ---- the frame comes first
 -- every other number is above BadBook's
 table-above : (s : State) (c : Call) → all (λ r. leb 3 (r .0)) (table s c) ≡ true
-unfolding all refusals fulls traceRefusals numberOf
+unfolding all refusals fulls traceRefusals toldRefusal
 table-above s (Call.Deposit d) = refl
 table-above s (Call.Claim c) = refl
 table-above s (Call.Transfer t) = refl

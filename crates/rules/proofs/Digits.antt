@@ -89,9 +89,9 @@ unfolding decimal
 decimal-spells n h = spells 19 n (omega arith)
 
 -- and its field reads as that number
-pub number-decimal : (n : ℕ) → n ≤ highestField → number (decimal n) ≡ Field.Number n
+pub number-decimal : (k n : ℕ) → n ≤ highestField → number k (decimal n) ≡ Field.Number n
 unfolding number readsAsNumber decimal spelled all valueAfter
-number-decimal zero h = refl
-number-decimal (suc n) h =
+number-decimal k zero h = refl
+number-decimal k (suc n) h =
     let s : Spells 20 (suc n) (decimal (suc n)) = decimal-spells (suc n) h in
     rw (le-leb 1 (length (decimal (suc n))) (s .some), le-leb (length (decimal (suc n))) 20 (s .short), s .digits, s .unled (omega arith), s .value, le-leb (suc n) highestField h)

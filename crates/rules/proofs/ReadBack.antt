@@ -1,5 +1,5 @@
 -- Reading a line that the writer wrote gives the call back, for every call whose fields fit in a line that is not too long.
-use Prim.Native.Nat.{ℕ, _*_, _≤_}
+use Prim.Native.Nat.{ℕ, _+_, _*_, _≤_}
 use mathlib.Core.Path.{_≡_, refl, sym, ap, _∙_}
 use mathlib.Core.Bool.{Bool, true, false, not, and-eq-true-iff}
 use mathlib.Core.List.{List, [], _∷_, _++_, map, append-nil, append-assoc}
@@ -10,7 +10,7 @@ use borrow.Author.Tests.{leb-true, le-leb, ne-eqb, eqb-true, eqb-false, not-true
 use Rattle.rules.specs.Types.{Call, Line}
 use Rattle.rules.specs.Limits.{highestField, mostBytes}
 use Rattle.rules.specs.Lists.{all, same, indexOf, joined, bytes}
-use Rattle.rules.specs.Lines.{tab, fieldsFrom, fields, fieldEnd, firstField, afterField, isDigit, Numbers, andRead, numbers, depositForm, claimForm, transferForm, withdrawForm, sendForm, settleForm, grantForm, signForm, traceForm, forms, formed, formedOf, readFields, readLine, decimal, tabbed, formOf, numbersOf, writeLine}
+use Rattle.rules.specs.Lines.{tab, fieldsFrom, fields, fieldEnd, firstField, afterField, fieldsAfter, isDigit, Numbers, andRead, wanted, Form, depositForm, claimForm, transferForm, withdrawForm, sendForm, settleForm, grantForm, signForm, traceForm, forms, formed, readAs, readFields, readLine, decimal, tabbed, formOf, numbersOf, writeLine}
 use Rattle.rules.proofs.Digits.{all-imply, decimal-spells, number-decimal}
 
 -- no byte of the piece is a tab
@@ -65,13 +65,13 @@ fields-tabbed w (n ∷ ns) u h =
     let (a, t) = first-fits n ns h in
     fields-piece w (decimal n ++ tabbed ns) u ∙ ap (λ (fs : List (List ℕ)). w ∷ fs) (fields-tabbed (decimal n) ns (decimal-untabbed n a) t)
 
--- the numbers' fields are read as the numbers
-pub numbers-decimal : (ns : List ℕ) → fitting ns ≡ true → numbers (map decimal ns) ≡ Numbers.allRead ns
-unfolding numbers andRead
-numbers-decimal [] h = refl
-numbers-decimal (n ∷ ns) h =
+-- the numbers' fields are read as the numbers, where as many are wanted
+pub numbers-decimal : (k : ℕ) (ns : List ℕ) → fitting ns ≡ true → wanted k (length ns) (map decimal ns) ≡ Numbers.allRead ns
+unfolding wanted andRead
+numbers-decimal k [] h = refl
+numbers-decimal k (n ∷ ns) h =
     let (a, t) = first-fits n ns h in
-    rw (number-decimal n a, numbers-decimal ns t)
+    rw (number-decimal k n a, numbers-decimal (k + 1) ns t)
 
 -- each number takes at most 21 bytes, with its tab
 pub length-tabbed : (ns : List ℕ) → fitting ns ≡ true → length (tabbed ns) ≤ 21 * length ns
@@ -82,30 +82,44 @@ length-tabbed (n ∷ ns) h =
     rw length-append (omega (arith, decimal-spells n a .short, length-tabbed ns t))
 
 -- ---- a line
--- a word without a tab and numbers that fit, in a line that is not too long: read, it is the form of its word and its numbers
-pub read-written : (w ns : List ℕ) → untabbed w ≡ true → fitting ns ≡ true → length (w ++ tabbed ns) ≤ mostBytes → readLine (w ++ tabbed ns) ≡ formed forms w ns
-unfolding readLine readFields formedOf
-read-written w ns u f short = rw (le-leb (length (w ++ tabbed ns)) mostBytes short, fields-tabbed w ns u f, numbers-decimal ns f)
+-- a form whose word no other form has
+abbrev pub Alone : Form → Type 0
+Alone g = (fs : List (List ℕ)) → readAs forms (g .word) fs ≡ formed g (wanted 1 (g .count) fs)
 
--- the nine calls: each is the form of its own word and numbers
+-- each of the nine words is one form's
+pub alone : (c : Call) → Alone (formOf c)
+unfolding bytes same forms readAs formOf depositForm claimForm transferForm withdrawForm sendForm settleForm grantForm signForm traceForm
+alone (Call.Deposit d) fs = refl
+alone (Call.Claim c) fs = refl
+alone (Call.Transfer t) fs = refl
+alone (Call.Withdraw w) fs = refl
+alone Call.Send fs = refl
+alone (Call.Settle n) fs = refl
+alone (Call.Grant g) fs = refl
+alone (Call.Sign g) fs = refl
+alone (Call.Trace n) fs = refl
+
+-- a form's word without a tab, and as many numbers that fit as it wants, in a line that is not too long: read, it is the form's call
+read-written : (g : Form) → Alone g → untabbed (g .word) ≡ true → (ns : List ℕ) → length ns ≡ g .count → fitting ns ≡ true → length (g .word ++ tabbed ns) ≤ mostBytes
+    → readLine (g .word ++ tabbed ns) ≡ Line.Reads (g .call ns)
+unfolding readLine readFields formed
+read-written g a u ns n f short =
+    rw (le-leb (length (g .word ++ tabbed ns)) mostBytes short, fields-tabbed (g .word) ns u f) (a (map decimal ns) ∙ rw (← n, numbers-decimal 1 ns f))
+
+-- so every call that is written is read back
 pub read-back : (c : Call) → fitting (numbersOf c) ≡ true → length (writeLine c) ≤ mostBytes → readLine (writeLine c) ≡ Line.Reads c
-unfolding all bytes forms formed same formOf numbersOf writeLine depositForm claimForm transferForm withdrawForm sendForm settleForm grantForm signForm traceForm
-read-back (Call.Deposit d) = read-written (bytes "deposit") (numbersOf (Call.Deposit d)) refl
-read-back (Call.Claim c) = read-written (bytes "claim") (numbersOf (Call.Claim c)) refl
-read-back (Call.Transfer t) = read-written (bytes "transfer") (numbersOf (Call.Transfer t)) refl
-read-back (Call.Withdraw w) = read-written (bytes "withdraw") (numbersOf (Call.Withdraw w)) refl
-read-back Call.Send = read-written (bytes "send") (numbersOf Call.Send) refl
-read-back (Call.Settle n) = read-written (bytes "settle") (numbersOf (Call.Settle n)) refl
-read-back (Call.Grant g) = read-written (bytes "grant") (numbersOf (Call.Grant g)) refl
-read-back (Call.Sign g) = read-written (bytes "sign") (numbersOf (Call.Sign g)) refl
-read-back (Call.Trace n) = read-written (bytes "trace") (numbersOf (Call.Trace n)) refl
+unfolding all bytes formOf numbersOf writeLine depositForm claimForm transferForm withdrawForm sendForm settleForm grantForm signForm traceForm
+read-back (Call.Deposit d) = read-written depositForm (alone (Call.Deposit d)) refl (numbersOf (Call.Deposit d)) refl
+read-back (Call.Claim c) = read-written claimForm (alone (Call.Claim c)) refl (numbersOf (Call.Claim c)) refl
+read-back (Call.Transfer t) = read-written transferForm (alone (Call.Transfer t)) refl (numbersOf (Call.Transfer t)) refl
+read-back (Call.Withdraw w) = read-written withdrawForm (alone (Call.Withdraw w)) refl (numbersOf (Call.Withdraw w)) refl
+read-back Call.Send = read-written sendForm (alone Call.Send) refl (numbersOf Call.Send) refl
+read-back (Call.Settle n) = read-written settleForm (alone (Call.Settle n)) refl (numbersOf (Call.Settle n)) refl
+read-back (Call.Grant g) = read-written grantForm (alone (Call.Grant g)) refl (numbersOf (Call.Grant g)) refl
+read-back (Call.Sign g) = read-written signForm (alone (Call.Sign g)) refl (numbersOf (Call.Sign g)) refl
+read-back (Call.Trace n) = read-written traceForm (alone (Call.Trace n)) refl (numbersOf (Call.Trace n)) refl
 
 -- ---- one field at a time, as the field reader takes them
--- the fields in what a field reader hands back: none where the line ended, and else those after the tab
-unfoldable pub fieldsAfter : List ℕ → List (List ℕ)
-fieldsAfter [] = []
-fieldsAfter (t ∷ rest) = fields rest
-
 fields-from : (before s : List ℕ) → fieldsFrom before s ≡ (before ++ firstField s) ∷ fieldsAfter (afterField s)
 unfolding fieldsFrom fieldEnd indexOf fieldsAfter fields
 fields-from before [] = rw append-nil

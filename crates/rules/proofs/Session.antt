@@ -15,8 +15,8 @@ pub empty-input : transcript [] ≡ bytes "end\t0\t0\n"
 unfolding compute
 empty-input = refl
 
--- "An unfinished last line is Malformed": the same line without and with its line feed
-pub unfinished : transcript (bytes "deposit\t1\t3\t500\t2") ≡ bytes "1\t1\nend\t0\t1\n"
+-- "An unfinished last line is Malformed": the same line without and with its line feed. All of it reads, so the field told is the count of four numbers with the word
+pub unfinished : transcript (bytes "deposit\t1\t3\t500\t2") ≡ bytes "1\t1\t5\nend\t0\t1\n"
 unfolding compute
 unfinished = refl
 

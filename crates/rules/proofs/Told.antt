@@ -8,14 +8,14 @@ use lib.ListN.{getD}
 use native.Mathlib.Omega.{arith}
 use borrow.Author.Tests.{ne-eqb}
 use Rattle.rules.specs.Types.{Refusal, Answer, Answered, Origin}
-use Rattle.rules.specs.Replies.{Reply, numberOf, told, toldOrigin}
+use Rattle.rules.specs.Replies.{Reply, plain, toldRefusal, numberOf, told, toldOrigin}
 use Rattle.rules.specs.Answer.{Outcome, outcomeOf}
 
--- ---- the refusal of a number
-refusals : List Refusal
-refusals =
-    Refusal.Malformed
-    ∷ Refusal.Malformed
+-- ---- the refusal of a reply
+refusals : ℕ → List Refusal
+refusals k =
+    Refusal.Malformed k
+    ∷ Refusal.Malformed k
     ∷ Refusal.BadBook
     ∷ Refusal.BadMember
     ∷ Refusal.BadAsset
@@ -38,12 +38,12 @@ refusals =
     ∷ Refusal.NoSuchPayment
     ∷ []
 
-refusalOf : ℕ → Refusal
-refusalOf n = getD refusals n Refusal.Malformed
+refusalOf : Reply → Refusal
+refusalOf r = getD (refusals (getD (r .values) 0 0)) (r .number) (Refusal.Malformed 0)
 
-refusal-back : (r : Refusal) → refusalOf (numberOf r) ≡ r
-unfolding refusalOf refusals numberOf
-refusal-back Refusal.Malformed = refl
+refusal-back : (r : Refusal) → refusalOf (toldRefusal r) ≡ r
+unfolding refusalOf refusals toldRefusal
+refusal-back (Refusal.Malformed k) = refl
 refusal-back Refusal.BadBook = refl
 refusal-back Refusal.BadMember = refl
 refusal-back Refusal.BadAsset = refl
@@ -67,8 +67,8 @@ refusal-back Refusal.NoSuchPayment = refl
 
 -- a refusal's number is never 0
 pub refusal-number : (r : Refusal) → 1 ≤ numberOf r
-unfolding numberOf
-refusal-number Refusal.Malformed = lit≤ tt
+unfolding toldRefusal
+refusal-number (Refusal.Malformed k) = lit≤ tt
 refusal-number Refusal.BadBook = lit≤ tt
 refusal-number Refusal.BadMember = lit≤ tt
 refusal-number Refusal.BadAsset = lit≤ tt
@@ -90,6 +90,35 @@ refusal-number Refusal.NotNext = lit≤ tt
 refusal-number Refusal.TableSmall = lit≤ tt
 refusal-number Refusal.NoSuchPayment = lit≤ tt
 
+-- a refusal is Malformed, which tells its field, or it tells its number alone
+pub data Telling : Refusal → Type 0 where
+  field : (k : ℕ) → Telling (Refusal.Malformed k)
+  alone : {r : Refusal} → toldRefusal r ≡ plain (numberOf r) → Telling r
+
+pub telling : (r : Refusal) → Telling r
+unfolding toldRefusal
+telling (Refusal.Malformed k) = Telling.field k
+telling Refusal.BadBook = Telling.alone refl
+telling Refusal.BadMember = Telling.alone refl
+telling Refusal.BadAsset = Telling.alone refl
+telling Refusal.BadDomain = Telling.alone refl
+telling Refusal.BadAmount = Telling.alone refl
+telling Refusal.BadPayee = Telling.alone refl
+telling Refusal.SameMember = Telling.alone refl
+telling Refusal.Old = Telling.alone refl
+telling Refusal.Gap = Telling.alone refl
+telling Refusal.Ceiling = Telling.alone refl
+telling Refusal.InboxFull = Telling.alone refl
+telling Refusal.NoSuchDeposit = Telling.alone refl
+telling Refusal.Short = Telling.alone refl
+telling Refusal.NotHolder = Telling.alone refl
+telling Refusal.OutboxFull = Telling.alone refl
+telling Refusal.HistoryFull = Telling.alone refl
+telling Refusal.NothingWaiting = Telling.alone refl
+telling Refusal.NotNext = Telling.alone refl
+telling Refusal.TableSmall = Telling.alone refl
+telling Refusal.NoSuchPayment = Telling.alone refl
+
 -- ---- the answer of a reply
 untoldDone : List ℕ → Answer
 untoldDone [] = Answer.Done
@@ -97,7 +126,7 @@ untoldDone (n ∷ []) = Answer.Traced n
 untoldDone (n ∷ a ∷ vs) = Answer.Sent (record { asset = a; amount = getD vs 0 0; payee = getD vs 1 0; nonce = record { 0 = n } })
 
 untold : Reply → Answer
-untold r = cond (eqb (r .number) 0) (untoldDone (r .values)) (Answer.Refused (refusalOf (r .number)))
+untold r = cond (eqb (r .number) 0) (untoldDone (r .values)) (Answer.Refused (refusalOf r))
 
 not-nought : (n : ℕ) → 1 ≤ n → eqb n 0 ≡ false
 not-nought n h = ne-eqb n 0 (λ e. omega arith)
@@ -114,7 +143,7 @@ told-once a b e = sym (untold-told a) ∙ ap untold e ∙ untold-told b
 
 -- the same of the question for a provenance
 untoldOrigin : Reply → Origin
-untoldOrigin r = cond (eqb (r .number) 0) (Origin.Amount (getD (r .values) 0 0)) (Origin.Refused (refusalOf (r .number)))
+untoldOrigin r = cond (eqb (r .number) 0) (Origin.Amount (getD (r .values) 0 0)) (Origin.Refused (refusalOf r))
 
 untold-origin : (o : Origin) → untoldOrigin (toldOrigin o) ≡ o
 unfolding untoldOrigin toldOrigin

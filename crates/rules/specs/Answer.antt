@@ -5,7 +5,7 @@ use mathlib.Core.List.{List, [], _∷_, _++_}
 use lib.ListN.{length, drop, replicate}
 use Rattle.rules.specs.Types.{Nonce, Lot, Refusal, Call, Answer, Answered, Origin, Desk}
 use Rattle.rules.specs.State.{State, Book, view, laid, historyOf}
-use Rattle.rules.specs.Replies.{Reply, told, toldOrigin, refuse, smallest, if-done}
+use Rattle.rules.specs.Replies.{Reply, told, toldOrigin, refuse, smallest, if-done, plain}
 use Rattle.rules.specs.Refusals.{table, traceRefusals, badMember, badAsset}
 use Rattle.rules.specs.Effects.{effect, oldest}
 use Rattle.rules.specs.Frame.{inFrame}
@@ -44,7 +44,7 @@ done c b = laid (effect c (view b)) b
 
 -- a reply with this number: what a done call tells, or the number alone
 abbrev pub replyWith : ℕ → Reply → Reply
-replyWith n done = if-done n done (record { number = n; values = [] })
+replyWith n done = if-done n done (plain n)
 
 -- the pieces that a done call hands out: a trace's, and no other's
 unfoldable pub piecesOf : State → Call → List Lot

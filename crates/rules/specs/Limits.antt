@@ -69,3 +69,7 @@ highestField = 18_446_744_073_709_551_615
 
 abbrev pub mostLines : ℕ
 mostLines = 100_000
+
+-- of a line that comes in parts no more than so many bytes are held: more than 120, and more than any line has in which every field reads (92), so that they tell the field of the whole line (crate lines, proofs/Held)
+abbrev pub mostHeld : ℕ
+mostHeld = 121

@@ -1,4 +1,4 @@
--- Document 01, "Lines": fields, numbers, the nine forms of a line, and a writer of lines. A line's bytes stand without its line feed.
+-- Document 01, "Lines", and document 02, "Say which field": fields, numbers, the nine forms of a line, and a writer of lines. A line's bytes stand without its line feed.
 use Prim.Native.Nat.{ℕ, zero, suc, _+_, _-_, _*_, _/_, _%_}
 use mathlib.Core.Bool.{Bool, not, _&&_, cond}
 use mathlib.Core.List.{List, [], _∷_, _++_}
@@ -34,6 +34,11 @@ firstField s = take (fieldEnd s) s
 abbrev pub afterField : List ℕ → List ℕ
 afterField s = drop (fieldEnd s) s
 
+-- the fields in such a part
+unfoldable pub fieldsAfter : List ℕ → List (List ℕ)
+fieldsAfter [] = []
+fieldsAfter (t ∷ rest) = fields rest
+
 -- ---- numbers: "1 to 20 decimal digits, no sign, no leading zero except `0` itself, at most 18,446,744,073,709,551,615"
 abbrev pub isDigit : ℕ → Bool
 isDigit b = within 48 57 b
@@ -49,22 +54,26 @@ leadingZero f = eqb (getD f 0 0) 48 && ltb 1 (length f)
 unfoldable pub readsAsNumber : List ℕ → Bool
 readsAsNumber f = within 1 mostDigits (length f) && (all isDigit f && (not (leadingZero f) && leb (valueAfter 0 f) highestField))
 
-unfoldable pub number : List ℕ → Field
-number f = cond (readsAsNumber f) (Field.Number (valueAfter 0 f)) Field.NotANumber
+-- "The field reader is to give the field where reading failed": what field k of a line reads as
+unfoldable pub number : ℕ → List ℕ → Field
+number k f = cond (readsAsNumber f) (Field.Number (valueAfter 0 f)) (Field.FailsAt k)
 
--- all of a line's fields after the word, or that one is no number
+-- the numbers after a line's word, or the first field that does not read
 pub data Numbers : Type 0 where
   allRead : List ℕ → Numbers
-  oneNot : Numbers
+  failsAt : ℕ → Numbers
 
 unfoldable pub andRead : Field → Numbers → Numbers
 andRead (Field.Number n) (Numbers.allRead ns) = Numbers.allRead (n ∷ ns)
-andRead (Field.Number n) Numbers.oneNot = Numbers.oneNot
-andRead Field.NotANumber ns = Numbers.oneNot
+andRead (Field.Number n) (Numbers.failsAt k) = Numbers.failsAt k
+andRead (Field.FailsAt k) ns = Numbers.failsAt k
 
-unfoldable pub numbers : List (List ℕ) → Numbers
-numbers [] = Numbers.allRead []
-numbers (f ∷ fs) = andRead (number f) (numbers fs)
+-- so many numbers, the first of which is field k of the line: each is to be there and a number, and nothing is to come after the last, "one too many the next number"
+unfoldable pub wanted : ℕ → ℕ → List (List ℕ) → Numbers
+wanted k zero [] = Numbers.allRead []
+wanted k zero (f ∷ fs) = Numbers.failsAt k
+wanted k (suc n) [] = Numbers.failsAt k
+wanted k (suc n) (f ∷ fs) = andRead (number k f) (wanted (k + 1) n fs)
 
 -- ---- the nine forms: the word, how many numbers follow, and the call that they are, "the fields in the order above"
 pub record Form : Type 0 where
@@ -130,22 +139,45 @@ traceForm = record { word = bytes "trace"; count = 1; call = λ ns. Call.Trace (
 unfoldable pub forms : List Form
 forms = depositForm ∷ claimForm ∷ transferForm ∷ withdrawForm ∷ sendForm ∷ settleForm ∷ grantForm ∷ signForm ∷ traceForm ∷ []
 
--- ---- reading
-unfoldable pub formed : List Form → List ℕ → List ℕ → Line
-formed [] word ns = Line.Malformed
-formed (f ∷ fs) word ns = cond (same (f .word) word && eqb (length ns) (f .count)) (Line.Reads (f .call ns)) (formed fs word ns)
+-- a call's numbers, in the same order
+unfoldable pub numbersOf : Call → List ℕ
+numbersOf (Call.Deposit d) = d .number .0 ∷ d .asset ∷ d .amount ∷ d .member ∷ []
+numbersOf (Call.Claim c) = c .member ∷ c .number .0 ∷ c .asset ∷ c .amount ∷ []
+numbersOf (Call.Transfer t) = t .from ∷ t .to ∷ t .asset ∷ t .amount ∷ []
+numbersOf (Call.Withdraw w) = w .member ∷ w .asset ∷ w .amount ∷ w .payee ∷ []
+numbersOf Call.Send = []
+numbersOf (Call.Settle n) = n .0 ∷ []
+numbersOf (Call.Grant g) = g .from ∷ g .to ∷ g .domain ∷ []
+numbersOf (Call.Sign g) = g .member ∷ g .domain ∷ []
+numbersOf (Call.Trace n) = n .0 ∷ []
 
-unfoldable pub formedOf : List ℕ → Numbers → Line
-formedOf word (Numbers.allRead ns) = formed forms word ns
-formedOf word Numbers.oneNot = Line.Malformed
+-- ---- reading
+-- the call of a form that these numbers make; a field that does not read is told as it is: "everything above it passes that on"
+unfoldable pub formed : Form → Numbers → Line
+formed f (Numbers.allRead ns) = Line.Reads (f .call ns)
+formed f (Numbers.failsAt k) = Line.Malformed k
+
+-- "the word is field 0": the form that has it says how many numbers are wanted, from field 1 on
+unfoldable pub readAs : List Form → List ℕ → List (List ℕ) → Line
+readAs [] word fs = Line.Malformed 0
+readAs (g ∷ gs) word fs = cond (same (g .word) word) (formed g (wanted 1 (g .count) fs)) (readAs gs word fs)
 
 unfoldable pub readFields : List (List ℕ) → Line
-readFields [] = Line.Malformed
-readFields (word ∷ fs) = formedOf word (numbers fs)
+readFields [] = Line.Malformed 0
+readFields (word ∷ fs) = readAs forms word fs
+
+-- a whole line, however long
+abbrev pub readWhole : List ℕ → Line
+readWhole s = readFields (fields s)
+
+-- "An over-long or unfinished line gives the first field that does not read, or, if all read, their count with the word."
+unfoldable pub unread : Line → Line
+unread (Line.Reads c) = Line.Malformed (length (numbersOf c) + 1)
+unread (Line.Malformed k) = Line.Malformed k
 
 -- a line "has at most 120 bytes"
 unfoldable pub readLine : List ℕ → Line
-readLine s = cond (leb (length s) mostBytes) (readFields (fields s)) Line.Malformed
+readLine s = cond (leb (length s) mostBytes) (readWhole s) (unread (readWhole s))
 
 -- ---- writing
 -- the last k decimal digits of a number, without leading zeros: all of them below 10 ^ k
@@ -170,17 +202,6 @@ formOf (Call.Settle n) = settleForm
 formOf (Call.Grant g) = grantForm
 formOf (Call.Sign g) = signForm
 formOf (Call.Trace n) = traceForm
-
-unfoldable pub numbersOf : Call → List ℕ
-numbersOf (Call.Deposit d) = d .number .0 ∷ d .asset ∷ d .amount ∷ d .member ∷ []
-numbersOf (Call.Claim c) = c .member ∷ c .number .0 ∷ c .asset ∷ c .amount ∷ []
-numbersOf (Call.Transfer t) = t .from ∷ t .to ∷ t .asset ∷ t .amount ∷ []
-numbersOf (Call.Withdraw w) = w .member ∷ w .asset ∷ w .amount ∷ w .payee ∷ []
-numbersOf Call.Send = []
-numbersOf (Call.Settle n) = n .0 ∷ []
-numbersOf (Call.Grant g) = g .from ∷ g .to ∷ g .domain ∷ []
-numbersOf (Call.Sign g) = g .member ∷ g .domain ∷ []
-numbersOf (Call.Trace n) = n .0 ∷ []
 
 unfoldable pub writeLine : Call → List ℕ
 writeLine c = formOf c .word ++ tabbed (numbersOf c)

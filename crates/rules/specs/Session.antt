@@ -1,4 +1,4 @@
--- Document 01's one session whole: the lines that are read, and the lines that are written.
+-- Document 01's one session whole, with the field that document 02 adds after reply 1: the lines that are read, and the lines that are written.
 use Prim.Native.Nat.{ℕ}
 use mathlib.Core.List.{List, [], _∷_}
 use Rattle.rules.specs.Lists.{joined, bytes}
@@ -38,6 +38,6 @@ sessionOutput =
     ∷ "10\t0\n"
     ∷ "11\t0\t2\t1\t200\t2\t150\n"
     ∷ "12\t10\n"
-    ∷ "13\t1\n"
+    ∷ "13\t1\t3\n"
     ∷ "end\t9\t4\n"
     ∷ [])

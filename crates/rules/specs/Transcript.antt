@@ -1,4 +1,4 @@
--- Document 01, the book runner: from all the bytes read to all the bytes written.
+-- Documents 01 and 02, the book runner: from all the bytes read to all the bytes written.
 use Prim.Native.Nat.{ℕ, _+_}
 use mathlib.Core.Bool.{Bool, true, false, cond}
 use mathlib.Core.List.{List, [], _∷_, _++_}
@@ -10,7 +10,7 @@ use Rattle.rules.specs.Lists.{joined, bytes}
 use Rattle.rules.specs.State.{Book, emptyBook}
 use Rattle.rules.specs.Replies.{told, if-done}
 use Rattle.rules.specs.Answer.{Outcome, answer}
-use Rattle.rules.specs.Lines.{lineFeed, readLine, decimal, tabbed}
+use Rattle.rules.specs.Lines.{lineFeed, readWhole, unread, readLine, decimal, tabbed}
 
 -- a line of the input: its bytes without the line feed, and whether that came
 pub record InputLine : Type 0 where
@@ -33,12 +33,12 @@ inputLines input = take mostLines (linesFrom [] input)
 
 -- "An unfinished last line is Malformed."
 unfoldable pub readInput : InputLine → Line
-readInput l = cond (l .finished) (readLine (l .text)) Line.Malformed
+readInput l = cond (l .finished) (readLine (l .text)) (unread (readWhole (l .text)))
 
--- 1 Malformed: the line is none of the forms, and the book is as it was
+-- 1 Malformed, with the field that the line tells: it is none of the forms, and the book is as it was
 unfoldable pub answerLine : Book → Line → Outcome
 answerLine b (Line.Reads c) = answer b c
-answerLine b Line.Malformed = record { reply = told (Answer.Refused Refusal.Malformed); pieces = []; book = b }
+answerLine b (Line.Malformed k) = record { reply = told (Answer.Refused (Refusal.Malformed k)); pieces = []; book = b }
 
 -- "deposit number and amount for each piece"
 abbrev pub pieceValues : Lot → List ℕ

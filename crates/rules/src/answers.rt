@@ -2,9 +2,10 @@
 use crate::desk::Desk;
 use crate::rows::Payment;
 
-// The reasons of document 01's table of reply numbers, in its order, from 1 on.
+// The reasons of document 01's table of reply numbers, in its order, from 1 on. The first has the field that
+// the line tells.
 pub enum Refusal {
-    Malformed,
+    Malformed(u64),
     BadBook,
     BadMember,
     BadAsset,

@@ -47,14 +47,14 @@ pub enum Call {
     Trace(Nonce),
 }
 
-// What reading one field gives: its number, or that it is none.
+// What reading one field gives: its number, or which field it is that does not read.
 pub enum Field {
     Number(u64),
-    NotANumber,
+    FailsAt(u64),
 }
 
-// What reading one line gives: one of the nine calls, or that it is none of the forms.
+// What reading one line gives: one of the nine calls, or the field that it tells.
 pub enum Line {
     Reads(Call),
-    Malformed,
+    Malformed(u64),
 }

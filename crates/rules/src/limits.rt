@@ -15,6 +15,10 @@ pub const HIGHEST_PAYEE: u64 = 65_535;
 pub const HIGHEST_NUMBER: u64 = 4_294_967_295;
 
 pub const HIGHEST_NEXT: u64 = 1024;
+// A line has at most so many bytes before its line feed, and of one that comes in parts so many are held.
+pub const MOST_BYTES: usize = 120;
+
+pub const MOST_HELD: usize = 121;
 // Inbox, outbox, history: 64, 32 and 1,024 rows, and how many numbers a row has.
 pub const INBOX_ROWS: usize = 64;
 

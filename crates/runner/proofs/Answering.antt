@@ -11,7 +11,7 @@ use Rattle.rules.specs.declared.desk.Desk.{Desk}
 use Rattle.rules.specs.declared.answers.Answer.{Answer}
 use Rattle.rules.specs.declared.answers.Tally.{Tally}
 use Rattle.rules.specs.State.{Book}
-use Rattle.rules.specs.Replies.{numberOf, told, plain}
+use Rattle.rules.specs.Replies.{toldRefusal, told, plain}
 use Rattle.rules.specs.Answer.{bookOf, replyNumber, answer}
 use Rattle.rules.specs.Facts.{Accepted}
 use Rattle.rules.specs.Transcript.{answerLine, tallied}
@@ -29,9 +29,9 @@ use Rattle.runner.specs.Machine.{afterLine, outcomeFor}
 use Rattle.runner.specs.Running.{machineOf, runningOf, malformed, Counted, Hears, Leaves}
 
 -- ---- what a line comes to
-pub malformed-said : (b : Book) → Hears b Line.Malformed (Heard.Said malformed)
-unfolding Hears answerLine told numberOf
-malformed-said b = refl
+pub malformed-said : (b : Book) (k : ℕ) → Hears b (Line.Malformed k) (Heard.Said (malformed k))
+unfolding Hears answerLine told toldRefusal
+malformed-said b k = refl
 
 pub call-said : (b : Book) (c : Call) (a : Answer) → told a ≡ plain (replyNumber b c) → saysAll c a ≡ true → Hears b (Line.Reads c) (Heard.Said a)
 unfolding Hears answerLine

@@ -7,7 +7,9 @@ use lib.ListN.{length, take}
 use borrow.Author.Tests.{lt-ltb, le-ltb}
 use Rattle.rules.specs.declared.calls.Line.{Line}
 use Rattle.rules.specs.declared.answers.Tally.{Tally}
-use Rattle.rules.specs.Replies.{told, numberOf}
+use Rattle.rules.specs.Lines.{unread, readWhole}
+use Rattle.rules.specs.Limits.{mostHeld}
+use Rattle.rules.specs.Replies.{told, toldRefusal}
 use Rattle.rules.specs.Transcript.{answerLine, tallied, endText}
 use Rattle.pages.specs.Writing.{Page, put}
 use Rattle.replies.specs.Writing.{replyLine}
@@ -26,11 +28,12 @@ module _ (run : Running) (i o h hold : List ℕ) (p : Page) where
   unfolding closing atEnd unfinished unfinishedText
   closed-whole n s z e = rw (z, le-ltb 100000 (run .line) s) e
 
-pub closed-unfinished : (run : Running) (i o h hold : List ℕ) (p : Page) (n : ℕ) → run .line ≤ 100000 → (n ≡ 0 → ⊥) → length hold ≡ 121 → {q r : Page} (t : Tally) → q ≡ put p (replyLine (run .line) (told malformed)) → t ≡ tallied (run .tally) (told malformed .number)
-    → r ≡ put q (endText t) → r ≡ put p (closing (machineOf run i o h (take n hold)))
-unfolding closing atEnd unfinished unfinishedText answerLine told numberOf
-closed-unfinished run i o h hold p zero s z l t e c f = absurd (z refl)
-closed-unfinished run i o h [] p (suc n) s z l t e c f = absurd (omega arith)
-closed-unfinished run i o h (x ∷ hold) p (suc n) s z l t e c f =
-    rw (le-ltb 100000 (run .line) s, reply-line (run .line) (outcomeFor (machineOf run i o h (x ∷ take n hold)) Line.Malformed) refl, ← c)
-    (put-then p (replyLine (run .line) (told malformed)) (endText t) e f)
+pub closed-unfinished : (run : Running) (i o h hold : List ℕ) (p : Page) (n k : ℕ) → run .line ≤ 100000 → (n ≡ 0 → ⊥) → length hold ≡ mostHeld → Line.Malformed k ≡ unread (readWhole (take n hold))
+    → {q r : Page} (t : Tally) → q ≡ put p (replyLine (run .line) (told (malformed k))) → t ≡ tallied (run .tally) (told (malformed k) .number) → r ≡ put q (endText t)
+    → r ≡ put p (closing (machineOf run i o h (take n hold)))
+unfolding closing atEnd unfinished unfinishedText answerLine told toldRefusal
+closed-unfinished run i o h hold p zero k s z l m t e c f = absurd (z refl)
+closed-unfinished run i o h [] p (suc n) k s z l m t e c f = absurd (omega arith)
+closed-unfinished run i o h (x ∷ hold) p (suc n) k s z l m t e c f =
+    rw (le-ltb 100000 (run .line) s, ← m, reply-line (run .line) (outcomeFor (machineOf run i o h (x ∷ take n hold)) (Line.Malformed k)) refl, ← c)
+    (put-then p (replyLine (run .line) (told (malformed k))) (endText t) e f)

@@ -7,11 +7,12 @@ use native.Mathlib.Omega.{arith}
 use lib.Dec.{ltb, eqb}
 use lib.ListN.{length, take, length-append}
 use lib.Seq.{take-nil, take-all, take-append-le, length-take-le}
-use borrow.Author.Tests.{lt-leb, le-ltb, ltb-true, ltb-false, eqb-true}
-use Rattle.rules.specs.Limits.{mostLines}
+use borrow.Author.Tests.{le-ltb, ltb-true, ltb-false, eqb-true}
+use Rattle.rules.specs.Limits.{mostLines, mostHeld}
 use Rattle.rules.specs.Lists.{joined}
 use Rattle.rules.specs.Lines.{lineFeed, readLine}
 use Rattle.rules.specs.Transcript.{InputLine, lastLine, linesFrom, inputLines, readInput, replyText, endText, played, transcript}
+use Rattle.lines.proofs.Held.{whole-held, line-held}
 use Rattle.runner.specs.Machine.{Machine, start, stopped, held-with, outcomeFor, afterLine, holding, fed, written, feeds, writes, unfinished, unfinishedText, atEnd, closing, writesAll}
 
 -- ---- feeding in parts
@@ -28,34 +29,21 @@ writes-append m (x ∷ xs) ys = rw (writes-append (fed m x) xs ys, append-assoc)
 -- ---- what is held of a line
 -- of a line that came so far: its first 121 bytes
 abbrev heldOf : List ℕ → List ℕ
-heldOf before = take 121 before
+heldOf before = take mostHeld before
 
 held-more : (before : List ℕ) (b : ℕ) → held-with (heldOf before) b ≡ heldOf (before ++ (b ∷ []))
 unfolding held-with
-held-more before b = go (ltb (length before) 121) refl
+held-more before b = go (ltb (length before) mostHeld) refl
   where
-    go : (t : Bool) → ltb (length before) 121 ≡ t → held-with (heldOf before) b ≡ heldOf (before ++ (b ∷ []))
+    go : (t : Bool) → ltb (length before) mostHeld ≡ t → held-with (heldOf before) b ≡ heldOf (before ++ (b ∷ []))
     go true e =
-        let h : length before < 121 = ltb-true (length before) 121 e in
+        let h : length before < mostHeld = ltb-true (length before) mostHeld e in
         let l : length (before ++ (b ∷ [])) ≡ length before + 1 = length-append before (b ∷ []) in
-        rw (take-all 121 before (omega arith), take-all 121 (before ++ (b ∷ [])) (omega arith), e)
+        rw (take-all mostHeld before (omega arith), take-all mostHeld (before ++ (b ∷ [])) (omega arith), e)
     go false e =
-        let h : 121 ≤ length before = ltb-false (length before) 121 e in
-        let l : length (heldOf before) ≡ 121 = length-take-le 121 before h in
-        rw (le-ltb (length (heldOf before)) 121 (omega arith)) (sym (take-append-le 121 before (b ∷ []) h))
-
-held-reads : (before : List ℕ) → readLine (heldOf before) ≡ readLine before
-unfolding readLine
-held-reads before = go (ltb (length before) 121) refl
-  where
-    go : (t : Bool) → ltb (length before) 121 ≡ t → readLine (heldOf before) ≡ readLine before
-    go true e =
-        let h : length before < 121 = ltb-true (length before) 121 e in
-        ap readLine (take-all 121 before (omega arith))
-    go false e =
-        let h : 121 ≤ length before = ltb-false (length before) 121 e in
-        let l : length (heldOf before) ≡ 121 = length-take-le 121 before h in
-        rw (lt-leb (length (heldOf before)) 120 (omega arith), lt-leb (length before) 120 (omega arith))
+        let h : mostHeld ≤ length before = ltb-false (length before) mostHeld e in
+        let l : length (heldOf before) ≡ mostHeld = length-take-le mostHeld before h in
+        rw (le-ltb (length (heldOf before)) mostHeld (omega arith)) (sym (take-append-le mostHeld before (b ∷ []) h))
 
 -- the lines that are still to be answered
 abbrev pub toCome : ℕ → ℕ
@@ -139,11 +127,11 @@ one-fewer m s =
 -- ---- what a line feed and any other byte change
 pub line-fed : (m : Machine) (before : List ℕ) → Holds m before → stopped m ≡ false → fed m lineFeed ≡ afterLine m (outcomeFor m (readLine before))
 unfolding fed
-line-fed m before h s = rw (s, h .held, held-reads before)
+line-fed m before h s = rw (s, h .held, line-held before)
 
 pub line-written : (m : Machine) (before : List ℕ) → Holds m before → stopped m ≡ false → written m lineFeed ≡ replyText (m .line) (outcomeFor m (readLine before))
 unfolding written
-line-written m before h s = rw (s, h .held, held-reads before)
+line-written m before h s = rw (s, h .held, line-held before)
 
 pub byte-fed : (m : Machine) (b : ℕ) → stopped m ≡ false → eqb b lineFeed ≡ false → fed m b ≡ holding m (held-with (m .held) b)
 unfolding fed
@@ -171,7 +159,7 @@ ends-end m before h s = rw (s, one-fewer m s) (go before (m .held) (h .held))
     go : (before held : List ℕ) → held ≡ heldOf before
         → unfinishedText held m ++ endText (unfinished held m .tally) ≡ played (m .line) (m .book) (m .tally) (take (suc (toCome (m .line + 1))) (lastLine before))
     go [] held e = rw e (unfold unfinishedText unfinished lastLine played in refl)
-    go (b ∷ bs) held e = rw e (unfold unfinishedText unfinished lastLine played readInput in rw (take-nil {A = InputLine} (toCome (m .line + 1))))
+    go (b ∷ bs) held e = rw e (unfold unfinishedText unfinished lastLine played readInput in rw (whole-held (b ∷ bs), take-nil {A = InputLine} (toCome (m .line + 1))))
 
 ends-line : (m : Machine) (before bs : List ℕ) → Holds m before → stopped m ≡ false → Ends (fed m lineFeed) [] bs → Ends m before (lineFeed ∷ bs)
 unfolding writes feeds linesFrom played readInput

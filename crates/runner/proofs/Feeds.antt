@@ -10,6 +10,7 @@ use lib.ListN.{length, getD, take, set}
 use lib.Seq.{length-take-le, take-suc, take-suc-set}
 use borrow.Author.Tests.{lt-ltb, le-ltb, eq-eqb}
 use Rattle.rules.specs.declared.calls.Line.{Line}
+use Rattle.rules.specs.Limits.{mostHeld}
 use Rattle.rules.specs.Lines.{readLine}
 use Rattle.rules.specs.Transcript.{replyText}
 use Rattle.pages.specs.Writing.{Page, page, put}
@@ -21,18 +22,18 @@ use Rattle.runner.proofs.Cuts.{feeds-append, writes-append}
 use Rattle.runner.proofs.Room.{fits-more}
 
 -- ---- one byte held
-pub hold-more : (t : List ℕ) (n b : ℕ) → n < 121 → length t ≡ 121 → take (n + 1) (set t n b) ≡ held-with (take n t) b
+pub hold-more : (t : List ℕ) (n b : ℕ) → n < mostHeld → length t ≡ mostHeld → take (n + 1) (set t n b) ≡ held-with (take n t) b
 unfolding held-with
 hold-more t n b h l =
     let f : n < length t = omega arith in
     let k : length (take n t) ≡ n = length-take-le n t (omega arith) in
-    rw (add-one n, take-suc-set t n b f, k, lt-ltb n 121 h)
+    rw (add-one n, take-suc-set t n b f, k, lt-ltb n mostHeld h)
 
-pub hold-full : (t : List ℕ) (n b : ℕ) → 121 ≤ n → n ≤ 121 → length t ≡ 121 → take n t ≡ held-with (take n t) b
+pub hold-full : (t : List ℕ) (n b : ℕ) → mostHeld ≤ n → n ≤ mostHeld → length t ≡ mostHeld → take n t ≡ held-with (take n t) b
 unfolding held-with
 hold-full t n b h g l =
     let k : length (take n t) ≡ n = length-take-le n t (omega arith) in
-    rw (k, le-ltb n 121 h)
+    rw (k, le-ltb n mostHeld h)
 
 -- ---- one byte fed
 module _ (run : Running) (i o h held : List ℕ) (b : ℕ) where

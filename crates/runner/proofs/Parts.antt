@@ -9,6 +9,7 @@ use lib.Dec.{leb, eqb}
 use lib.ListN.{length, getD, take, drop, length-drop}
 use lib.Seq.{take-suc, take-add, take-all, take-length, getD-drop}
 use borrow.Author.Tests.{lt-ltb, le-ltb}
+use Rattle.rules.specs.Limits.{mostHeld}
 use Rattle.rules.specs.Lists.{all}
 use Rattle.rules.specs.declared.calls.Line.{Line}
 use Rattle.rules.specs.Lines.{lineFeed, readLine}
@@ -128,7 +129,7 @@ module _ (m : Machine) (chunk out₀ : List ℕ) (at₀ k : ℕ) (f : Feeding) (
 
   -- a read that ends within a line: all that is left of it is held
   pub so-held : f .running .line ≤ 100000 → {part : List ℕ} → part ≡ drop k chunk → (n : ℕ) → NextFeed n part → length part ≤ n → (held′ : ℕ) (hold′ : List ℕ) → length hold′ ≡ length hold
-      → take held′ hold′ ≡ holds (take (f .held) hold) part → held′ ≤ 121 → SoFar m chunk out₀ at₀ (length chunk) (record { running = f .running; held = held′; at = f .at }) i o h hold′ out
+      → take held′ hold′ ≡ holds (take (f .held) hold) part → held′ ≤ mostHeld → SoFar m chunk out₀ at₀ (length chunk) (record { running = f .running; held = held′; at = f .at }) i o h hold′ out
   so-held l {part} q n nf past held′ hold′ z e few =
       let held = take (f .held) hold in
       let g : Feeding = record { running = f .running; held = held′; at = f .at } in

@@ -8,14 +8,15 @@ use lib.Dec.{leb, ltb, eqb}
 use lib.ListN.{length, take, length-append}
 use borrow.Author.Tests.{leb-true}
 use Rattle.rules.specs.declared.rows.Lot.{Lot}
+use Rattle.rules.proofs.Told.{Telling, telling}
 use Rattle.rules.specs.Lists.{joined, bytes}
-use Rattle.rules.specs.Lines.{lineFeed, tab, spelled, decimal, tabbed, readLine}
+use Rattle.rules.specs.Lines.{lineFeed, tab, spelled, decimal, tabbed, readLine, unread, readWhole}
 use Rattle.rules.specs.declared.calls.Call.{Call}
 use Rattle.rules.specs.declared.calls.Line.{Line}
 use Rattle.rules.specs.declared.answers.Answer.{Answer}
 use Rattle.rules.specs.declared.answers.Refusal.{Refusal}
 use Rattle.rules.specs.State.{Book, view, historyOf}
-use Rattle.rules.specs.Replies.{told, if-done}
+use Rattle.rules.specs.Replies.{told, if-done, toldRefusal}
 use Rattle.rules.specs.Answer.{Outcome, answer, replyNumber, replyWith, piecesOf, doneAnswer}
 use Rattle.rules.specs.Facts.{Accepted}
 use Rattle.rules.proofs.Accepts.{by-number, accepted-frame}
@@ -77,7 +78,11 @@ unfolding told
 values-few Answer.Done = omega arith
 values-few (Answer.Sent p) = omega arith
 values-few (Answer.Traced n) = omega arith
-values-few (Answer.Refused r) = omega arith
+values-few (Answer.Refused r) = go (telling r)
+  where
+    go : {x : Refusal} → Telling x → length (toldRefusal x .values) ≤ 4
+    go (Telling.field k) = unfold toldRefusal in omega arith
+    go (Telling.alone e) = rw e (omega arith)
 
 reply-few : (n : ℕ) (a : Answer) → length (replyWith n (told a) .values) ≤ 4
 reply-few zero a = values-few a
@@ -107,7 +112,7 @@ unfolding answerLine answer
 line-fits n b (Line.Reads c) =
     reply-length n (answer b c) (reply-few (replyNumber b c) (doneAnswer (view b) c))
     (done-few (replyNumber b c) (piecesOf (view b) c) (λ e. pieces-few b c (by-number b c e)))
-line-fits n b Line.Malformed = reply-length n (answerLine b Line.Malformed) (values-few (Answer.Refused Refusal.Malformed)) (omega arith)
+line-fits n b (Line.Malformed k) = reply-length n (answerLine b (Line.Malformed k)) (values-few (Answer.Refused (Refusal.Malformed k))) (omega arith)
 
 -- no byte makes the machine write more
 pub written-fits : (m : Machine) (b : ℕ) → length (written m b) ≤ 43134
@@ -130,7 +135,7 @@ end-length t =
 unfinished-fits : (held : List ℕ) (m : Machine) → length (unfinishedText held m) ≤ 43134
 unfolding unfinishedText
 unfinished-fits [] m = omega arith
-unfinished-fits (b ∷ bs) m = line-fits (m .line) (m .book) Line.Malformed
+unfinished-fits (b ∷ bs) m = line-fits (m .line) (m .book) (unread (readWhole (b ∷ bs)))
 
 pub closing-fits : (m : Machine) → length (closing m) ≤ 45000
 unfolding closing

@@ -1,4 +1,4 @@
--- A line read where it lies is the line that would have been held: of a line over 120 bytes 121 are enough to refuse it. And where in a read the next line feed stands.
+-- A line read where it lies is the line that would have been held: of a line over 120 bytes 121 tell the field of the whole line. And where in a read the next line feed stands.
 use Prim.Native.Nat.{ℕ, _+_, _-_, _≤_, _<_}
 use mathlib.Core.Path.{_≡_, refl, sym, ap, _∙_}
 use mathlib.Core.Bool.{Bool, true, false, not, _&&_, _||_, cond}
@@ -8,43 +8,37 @@ use native.Mathlib.Numerals.{add-one}
 use native.Mathlib.Omega.{arith}
 use lib.Dec.{ltb, eqb}
 use lib.ListN.{length, getD, take, drop, length-append, length-drop}
-use lib.Seq.{take-all, take-at, take-suc, take-add, length-take-le, getD-drop}
+use lib.Seq.{take-all, take-at, take-suc, take-add, getD-drop}
 use borrow.Author.Tests.{ne-eqb, ltb-true, ltb-false}
+use Rattle.rules.specs.Limits.{mostHeld}
 use Rattle.rules.specs.Lists.{all}
 use Rattle.rules.specs.Lines.{readLine}
 use Rattle.rules.proofs.Digits.{all-append}
-use Rattle.lines.proofs.LineLaws.{line-long}
+use Rattle.lines.proofs.Held.{line-held}
 use Rattle.runner.specs.Machine.{held-with, holds}
 use Rattle.runner.specs.Feeding.{noFeed, NextFeed}
 
 -- ---- what is held of a line: its first 121 bytes
-first-held : (before bs : List ℕ) → length before ≤ 121 → holds before bs ≡ take 121 (before ++ bs)
+first-held : (before bs : List ℕ) → length before ≤ mostHeld → holds before bs ≡ take mostHeld (before ++ bs)
 unfolding holds held-with
-first-held before [] h = rw (append-nil before) (sym (take-all 121 before h))
-first-held before (b ∷ bs) h = go (ltb (length before) 121) refl (λ g. first-held (before ++ (b ∷ [])) bs g) (first-held before bs h)
+first-held before [] h = rw (append-nil before) (sym (take-all mostHeld before h))
+first-held before (b ∷ bs) h = go (ltb (length before) mostHeld) refl (λ g. first-held (before ++ (b ∷ [])) bs g) (first-held before bs h)
   where
     longer : length (before ++ (b ∷ [])) ≡ length before + 1
     longer = length-append before (b ∷ [])
 
-    go : (t : Bool) → ltb (length before) 121 ≡ t → (length (before ++ (b ∷ [])) ≤ 121 → holds (before ++ (b ∷ [])) bs ≡ take 121 ((before ++ (b ∷ [])) ++ bs)) → holds before bs ≡ take 121 (before ++ bs)
-        → holds (cond t (before ++ (b ∷ [])) before) bs ≡ take 121 (before ++ (b ∷ bs))
+    go : (t : Bool) → ltb (length before) mostHeld ≡ t → (length (before ++ (b ∷ [])) ≤ mostHeld → holds (before ++ (b ∷ [])) bs ≡ take mostHeld ((before ++ (b ∷ [])) ++ bs)) → holds before bs ≡ take mostHeld (before ++ bs)
+        → holds (cond t (before ++ (b ∷ [])) before) bs ≡ take mostHeld (before ++ (b ∷ bs))
     go true e more same =
-        let l : length before < 121 = ltb-true (length before) 121 e in
-        more (omega (arith, longer)) ∙ ap (take 121) (append-assoc before (b ∷ []) bs)
+        let l : length before < mostHeld = ltb-true (length before) mostHeld e in
+        more (omega (arith, longer)) ∙ ap (take mostHeld) (append-assoc before (b ∷ []) bs)
     go false e more same =
-        let l : length before ≡ 121 = let g : 121 ≤ length before = ltb-false (length before) 121 e in omega arith in
-        same ∙ take-at before bs 121 l ∙ sym (take-at before (b ∷ bs) 121 l)
+        let l : length before ≡ mostHeld = let g : mostHeld ≤ length before = ltb-false (length before) mostHeld e in omega arith in
+        same ∙ take-at before bs mostHeld l ∙ sym (take-at before (b ∷ bs) mostHeld l)
 
 -- so a whole line that lies in a read is read there
 pub read-there : (s : List ℕ) → readLine s ≡ readLine (holds [] s)
-read-there s = go (ltb 121 (length s)) refl
-  where
-    go : (t : Bool) → ltb 121 (length s) ≡ t → readLine s ≡ readLine (holds [] s)
-    go true e =
-        let l : 121 < length s = ltb-true 121 (length s) e in
-        let k : length (take 121 s) ≡ 121 = length-take-le 121 s (omega arith) in
-        line-long s (omega arith) ∙ sym (ap readLine (first-held [] s (omega arith)) ∙ line-long (take 121 s) (omega (arith, k)))
-    go false e = ap readLine (sym (first-held [] s (omega arith) ∙ take-all 121 s (ltb-false 121 (length s) e)))
+read-there s = sym (ap readLine (first-held [] s (omega arith)) ∙ line-held s)
 
 -- ---- the next line feed
 -- past bytes without one

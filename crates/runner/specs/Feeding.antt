@@ -3,6 +3,7 @@ use Prim.Native.Nat.{ℕ, _-_, _≤_, _<_}
 use mathlib.Core.Path.{_≡_}
 use mathlib.Core.Bool.{Bool, true, not}
 use lib.Dec.{eqb}
+use Rattle.rules.specs.Limits.{mostHeld}
 use Rattle.rules.specs.Lists.{all}
 use Rattle.rules.specs.Lines.{lineFeed}
 use Rattle.rules.specs.declared.desk.Desk.{Desk}
@@ -26,8 +27,8 @@ fedMachine f inbox outbox history hold = machineOf (f .running) inbox outbox his
 -- at most 121 bytes are held, in a buffer of so many
 pub record Ready (f : Feeding) (hold : List ℕ) : Type 0 where
   pub counted : Counted (f .running)
-  pub held : f .held ≤ 121
-  pub size : length hold ≡ 121
+  pub held : f .held ≤ mostHeld
+  pub size : length hold ≡ mostHeld
 
 -- no line feed
 abbrev pub noFeed : ℕ → Bool

@@ -3,7 +3,7 @@ use Prim.Native.Nat.{ℕ, _≤_}
 use mathlib.Core.Path.{_≡_}
 use mathlib.Core.List.{List, _++_}
 use lib.ListN.{length, take}
-use Rattle.rules.specs.Limits.{inboxRows, outboxRows, historyRows}
+use Rattle.rules.specs.Limits.{inboxRows, outboxRows, historyRows, mostHeld}
 use Rattle.rules.specs.Tables.{depositShape, paymentShape, recordShape}
 use Rattle.rules.specs.State.{Book, blank}
 use Rattle.rules.specs.Answer.{bookOf}
@@ -45,7 +45,7 @@ pub record Begins (k : Kept) : Type 0 where
   pub inbox : k .inbox ≡ blank depositShape inboxRows
   pub outbox : k .outbox ≡ blank paymentShape outboxRows
   pub history : k .history ≡ blank recordShape historyRows
-  pub size : length (k .hold) ≡ 121
+  pub size : length (k .hold) ≡ mostHeld
 
 -- one call of `run_some` with some bytes, of which it took the first `next`: its contract, of all that it was lent and handed back
 pub record RunSome (before : Kept) (chunk : List ℕ) (next : ℕ) (left : Kept) : Type 0 where

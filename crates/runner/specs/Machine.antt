@@ -6,10 +6,10 @@ use lib.Dec.{ltb, eqb}
 use lib.ListN.{length}
 use Rattle.rules.specs.declared.calls.Line.{Line}
 use Rattle.rules.specs.declared.answers.Tally.{Tally}
-use Rattle.rules.specs.Limits.{mostBytes, mostLines}
+use Rattle.rules.specs.Limits.{mostHeld, mostLines}
 use Rattle.rules.specs.State.{Book, emptyBook}
 use Rattle.rules.specs.Answer.{Outcome}
-use Rattle.rules.specs.Lines.{lineFeed, readLine}
+use Rattle.rules.specs.Lines.{lineFeed, readWhole, unread, readLine}
 use Rattle.rules.specs.Transcript.{answerLine, replyText, tallied, endText}
 
 -- the book, the tally, the number of the line that comes next, and the bytes of it that came so far
@@ -26,9 +26,9 @@ start = record { book = emptyBook; tally = record { done = 0; other = 0 }; line 
 abbrev pub stopped : Machine → Bool
 stopped m = ltb mostLines (m .line)
 
--- one byte more of a line. Of a line over 120 bytes no more than 121 are held: it is Malformed however it goes on
+-- one byte more of a line. Of a line over 120 bytes no more than 121 are held: they tell the field of the whole line (crate lines, proofs/Held)
 unfoldable pub held-with : List ℕ → ℕ → List ℕ
-held-with before b = cond (ltb (length before) (mostBytes + 1)) (before ++ (b ∷ [])) before
+held-with before b = cond (ltb (length before) mostHeld) (before ++ (b ∷ [])) before
 
 -- many bytes more of a line
 unfoldable pub holds : List ℕ → List ℕ → List ℕ
@@ -64,11 +64,11 @@ writes m (b ∷ bs) = written m b ++ writes (fed m b) bs
 -- at the end of the input: an unfinished last line is Malformed, and last comes `end`
 unfoldable pub unfinished : List ℕ → Machine → Machine
 unfinished [] m = m
-unfinished (b ∷ bs) m = afterLine m (outcomeFor m Line.Malformed)
+unfinished (b ∷ bs) m = afterLine m (outcomeFor m (unread (readWhole (b ∷ bs))))
 
 unfoldable pub unfinishedText : List ℕ → Machine → List ℕ
 unfinishedText [] m = []
-unfinishedText (b ∷ bs) m = replyText (m .line) (outcomeFor m Line.Malformed)
+unfinishedText (b ∷ bs) m = replyText (m .line) (outcomeFor m (unread (readWhole (b ∷ bs))))
 
 -- the machine at the very end, and what it writes there
 unfoldable pub atEnd : Machine → Machine

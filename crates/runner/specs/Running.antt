@@ -25,9 +25,9 @@ machineOf r inbox outbox history held = record { book = bookOf (r .desk) inbox o
 abbrev pub runningOf : Desk → Written → Running
 runningOf d w = record { desk = d; tally = w .tally; line = w .line }
 
--- what a line is answered that is none of the forms
-abbrev pub malformed : Answer
-malformed = Answer.Refused Refusal.Malformed
+-- what a line is answered that is none of the forms, and tells this field
+abbrev pub malformed : ℕ → Answer
+malformed k = Answer.Refused (Refusal.Malformed k)
 
 -- no count has passed the lines that were answered, so none can wrap
 pub record Counted (r : Running) : Type 0 where

@@ -6,16 +6,19 @@ use crate::running::answer_call;
 use crate::running::answer_said;
 use crate::running::hear;
 use lines::read::read_line;
+use lines::read::unread_field;
 use replies::put_end;
 use rules::answers::Answer;
 use rules::answers::Refusal;
 use rules::calls::Line;
 use rules::desk::Desk;
+use rules::limits::MOST_HELD;
 ghost use Prim.Native.Nat.{_+_, _-_, _≤_};
 ghost use lib.Dec.{leb};
 ghost use mathlib.Core.Path.{_≡_};
 ghost use lib.ListN.{length, take};
 ghost use mathlib.Core.Bool.{not, true};
+ghost use Rattle.rules.specs.Limits.{mostHeld};
 ghost use Rattle.rules.specs.Lists.{all};
 ghost use Rattle.rules.specs.Lines.{readLine};
 ghost use Rattle.runner.specs.Machine.{held-with, holds};
@@ -30,15 +33,15 @@ pub struct Feeding {
     pub at: usize,
 }
 
-// One byte more of a line. Of a line over 120 bytes no more than 121 are held: it is Malformed however
-// it goes on.
+// One byte more of a line. Of a line over 120 bytes no more than 121 are held: they tell the field of the
+// whole line.
 fn hold_byte(hold: &mut [u8], held: usize, b: u8) -> usize
-    requires { ⌜ held ≤ 121 ⌝ }
-    requires { ⌜ length (now hold) ≡ 121 ⌝ }
+    requires { ⌜ held ≤ mostHeld ⌝ }
+    requires { ⌜ length (now hold) ≡ mostHeld ⌝ }
     ensures { λ r. ⌜ take r (now (hold .exit)) ≡ held-with (take held (now (hold .entry))) b ⌝ }
-    ensures { λ r. ⌜ r ≤ 121 ⌝ }
+    ensures { λ r. ⌜ r ≤ mostHeld ⌝ }
 {
-    if held < 121 {
+    if held < MOST_HELD {
         hold[held] = b;
         return held + 1;
     }
@@ -53,10 +56,10 @@ pub struct Fed {
 
 // Holds the bytes of a part of a line, one after the other.
 fn hold_part(hold: &mut [u8], held: usize, part: &[u8]) -> usize
-    requires { ⌜ held ≤ 121 ⌝ }
-    requires { ⌜ length (now hold) ≡ 121 ⌝ }
+    requires { ⌜ held ≤ mostHeld ⌝ }
+    requires { ⌜ length (now hold) ≡ mostHeld ⌝ }
     ensures { λ r. ⌜ take r (now (hold .exit)) ≡ holds (take held (now (hold .entry))) (now (part .entry)) ⌝ }
-    ensures { λ r. ⌜ r ≤ 121 ⌝ }
+    ensures { λ r. ⌜ r ≤ mostHeld ⌝ }
 {
     let mut n = held;
     let mut k: usize = 0;
@@ -119,8 +122,8 @@ fn has_feed(s: &[u8]) -> bool
 
 // Reads the line whose last part this is. Where nothing of it is held it is read where it lies.
 fn whole_line(hold: &mut [u8], held: usize, part: &[u8]) -> Line
-    requires { ⌜ held ≤ 121 ⌝ }
-    requires { ⌜ length (now hold) ≡ 121 ⌝ }
+    requires { ⌜ held ≤ mostHeld ⌝ }
+    requires { ⌜ length (now hold) ≡ mostHeld ⌝ }
     ensures { λ r. ⌜ r ≡ readLine (holds (take held (now (hold .entry))) (now (part .entry))) ⌝ }
 {
     if held == 0 {
@@ -245,7 +248,8 @@ pub fn close(f: Feeding, hold: &[u8], out: &mut [u8]) -> usize
         line: run.line,
         at: f.at,
     };
-    let why = Refusal::Malformed;
+    let field = unread_field(&hold[..n]);
+    let why = Refusal::Malformed(field);
     let answer = Answer::Refused(why);
     let told = answer_said(w, out, answer);
     let raised = told.tally;

@@ -62,8 +62,8 @@ pub(crate) fn hear<'a>(
     ensures { λ r. ⌜ Hears (bookOf (deskWith (now (balances .entry)) (now (holders .entry)) (now (lifetime .entry)) (now (settled .entry)) counts) (now (inbox .entry)) (now (outbox .entry)) (now (history .entry))) l r ⌝ }
 {
     match l {
-        Line::Malformed => {
-            let why = Refusal::Malformed;
+        Line::Malformed(field) => {
+            let why = Refusal::Malformed(field);
             let answer = Answer::Refused(why);
             Heard::Said(answer)
         }

@@ -12,7 +12,8 @@ use Rattle.rules.specs.declared.answers.Answer.{Answer}
 use Rattle.rules.specs.declared.answers.Answered.{Answered}
 use Rattle.rules.specs.Tables.{recordShape}
 use Rattle.rules.specs.State.{Book, view, historyOf}
-use Rattle.rules.specs.Replies.{Reply, told, plain, if-done}
+use Rattle.rules.specs.Replies.{Reply, numberOf, told, plain, if-done}
+use Rattle.rules.proofs.Told.{refusal-number}
 use Rattle.rules.specs.Effects.{changesNothing}
 use Rattle.rules.specs.Answer.{answer, outcomeOf, replyNumber, replyWith, doneAnswer, piecesOf, traceAnswer, TraceOutcome}
 use Rattle.rules.specs.Facts.{Accepted}
@@ -63,7 +64,7 @@ handed-traced (Answer.Sent x) zero ps t e f = absurd (let z : _≡_ {A = ℕ} 4 
 handed-traced (Answer.Sent x) (suc k) ps t e f = refl
 handed-traced (Answer.Traced m) zero ps t e f = let q : m ≡ length ps = ap (λ (r : Reply). getD (r .values) 0 0) e in rw q f
 handed-traced (Answer.Traced m) (suc k) ps t e f = absurd (let z : _≡_ {A = ℕ} 1 0 = ap valueCount e in omega arith)
-handed-traced (Answer.Refused why) zero ps t e f = absurd (let z : _≡_ {A = ℕ} 0 1 = ap valueCount e in omega arith)
+handed-traced (Answer.Refused why) zero ps t e f = absurd (let z : numberOf why ≡ 0 = ap (λ (r : Reply). r .number) e in omega (arith, refusal-number why))
 handed-traced (Answer.Refused why) (suc k) ps t e f = refl
 
 abbrev replyFound : TraceOutcome → Reply

@@ -11,13 +11,13 @@ use Rattle.fields.proofs.digits.Statement.{statement}
 use Rattle.fields.proofs.digits.Tie as tie
 
 abbrev Inv-loop : tie.InvT-loop
-Inv-loop s v₀ i₀ v i = (v ≤ highestField) × (digitsRead s ≡ readFrom s v i)
+Inv-loop s k v₀ i₀ v i = (v ≤ highestField) × (digitsRead k s ≡ readFrom k s v i)
 
 abbrev μ-loop : tie.MeasureT-loop
-μ-loop s v₀ i₀ v i = length s - i
+μ-loop s k v₀ i₀ v i = length s - i
 
 loop-holds : tie.Need-loop-holds Inv-loop μ-loop
-loop-holds c = (search needs, from-first (c .before .args .s .now))
+loop-holds c = (search needs, from-first (c .before .args .k) (c .before .args .s .now))
 
 shared-slice-read-if1 : tie.Need-shared-slice-read-if1 Inv-loop μ-loop
 shared-slice-read-if1 c = search needs
@@ -25,8 +25,9 @@ shared-slice-read-if1 c = search needs
 returns : tie.Need-returns Inv-loop μ-loop
 returns c =
     let l = c .before .before .before .loop in
-    let s = c .before .before .before .before .before .args .s .now in
-    sym (l .inv .1 ∙ from-end s (l .v) (l .i) (end-here s (l .i) (c .before .before .loop-test .taken) (c .if1 .taken)) (l .inv .0))
+    let a = c .before .before .before .before .before .args in
+    let s = a .s .now in
+    sym (l .inv .1 ∙ from-end (a .k) s (l .v) (l .i) (end-here s (l .i) (c .before .before .loop-test .taken) (c .if1 .taken)) (l .inv .0))
 
 shared-slice-read-one-more : tie.Need-shared-slice-read-one-more Inv-loop μ-loop
 shared-slice-read-one-more c = search needs
@@ -43,7 +44,7 @@ enum-told c = search needs
 returns-2 : tie.Need-returns-2 Inv-loop μ-loop
 returns-2 c =
     let l = c .before .before .before .before .before .before .before .loop in
-    sym (l .inv .1 ∙ from-not (c .before .before .before .before .before .before .before .before .before .args .s .now) (l .v) (l .i) (c .before .before .before .before .before .before .loop-test .taken) (c .before .before .before .before .if1 .left) (sym (c .before .before .one-more .ensures) ∙ c .enum-told .given .1))
+    sym (l .inv .1 ∙ from-not (c .before .before .before .before .before .before .before .before .before .args .k) (c .before .before .before .before .before .before .before .before .before .args .s .now) (l .v) (l .i) (c .before .before .before .before .before .before .loop-test .taken) (c .before .before .before .before .if1 .left) (sym (c .before .before .one-more .ensures) ∙ c .enum-told .given .1))
 
 add-i : tie.Need-add-i Inv-loop μ-loop
 add-i c = search needs
@@ -54,13 +55,14 @@ loop-less c = search needs
 loop-again : tie.Need-loop-again Inv-loop μ-loop
 loop-again c =
     let l = c .before .before .before .before .before .before .before .before .loop in
-    (omega (arith, c .known-told .given), l .inv .1 ∙ from-more (c .before .before .before .before .before .before .before .before .before .before .args .s .now) (l .v) (l .i) (c .before .before .before .before .before .before .before .loop-test .taken) (c .before .before .before .before .before .if1 .left) (sym (c .before .before .before .one-more .ensures) ∙ c .before .n .given .1))
+    (omega (arith, c .known-told .given), l .inv .1 ∙ from-more (c .before .before .before .before .before .before .before .before .before .before .args .k) (c .before .before .before .before .before .before .before .before .before .before .args .s .now) (l .v) (l .i) (c .before .before .before .before .before .before .before .loop-test .taken) (c .before .before .before .before .before .if1 .left) (sym (c .before .before .before .one-more .ensures) ∙ c .before .n .given .1))
 
 returns-3 : tie.Need-returns-3 Inv-loop μ-loop
 returns-3 c =
     let l = c .before .loop in
-    let s = c .before .before .before .args .s .now in
-    sym (l .inv .1 ∙ from-end s (l .v) (l .i) (end-none s (l .i) (c .loop-test .left)) (l .inv .0))
+    let a = c .before .before .before .args in
+    let s = a .s .now in
+    sym (l .inv .1 ∙ from-end (a .k) s (l .v) (l .i) (end-none s (l .i) (c .loop-test .left)) (l .inv .0))
 
 pub digits-spec : {M : Type 1} → statement M
 digits-spec =

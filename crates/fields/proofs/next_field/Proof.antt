@@ -8,7 +8,7 @@ use Rattle.fields.proofs.next_field.Statement.{statement}
 use Rattle.fields.proofs.next_field.Tie as tie
 
 returns : tie.Need-returns
-returns c = sym (next-none (c .before .before .args .s .now) (c .if1 .taken))
+returns c = sym (next-none (c .before .before .args .k) (c .before .before .args .s .now) (c .if1 .taken))
 
 digits-requires : tie.Need-digits-requires
 digits-requires c κs = search needs
@@ -20,37 +20,42 @@ enum-told : tie.Need-enum-told
 enum-told c = search needs
 
 returns-2 : tie.Need-returns-2
-returns-2 c = sym (next-not (c .before .before .before .before .before .args .s .now) (omega (arith, c .before .before .before .if1 .left)) (sym (c .before .before .digits .ensures) ∙ c .enum-told .given .1))
+returns-2 c = sym (next-not (c .before .before .before .before .before .args .k) (c .before .before .before .before .before .args .s .now) (omega (arith, c .before .before .before .if1 .left)) (sym (c .before .before .digits .ensures) ∙ c .enum-told .given .1))
 
 sub-is-shaped : tie.Need-sub-is-shaped
 sub-is-shaped c =
-    let s = c .before .before .before .before .before .before .args .s .now in
-    omega (arith, end-read s (sym (c .before .before .before .digits .ensures) ∙ c .before .n .given .1), end-bound s (omega (arith, c .before .before .before .before .if1 .left)))
+    let a = c .before .before .before .before .before .before .args in
+    let s = a .s .now in
+    omega (arith, end-read (a .k) s (sym (c .before .before .before .digits .ensures) ∙ c .before .n .given .1), end-bound s (omega (arith, c .before .before .before .before .if1 .left)))
 
 part-is-shaped-start : tie.Need-part-is-shaped-start
 part-is-shaped-start c =
-    let s = c .before .before .before .before .before .before .args .s .now in
-    omega (arith, end-read s (sym (c .before .before .before .digits .ensures) ∙ c .before .n .given .1), end-bound s (omega (arith, c .before .before .before .before .if1 .left)))
+    let a = c .before .before .before .before .before .before .args in
+    let s = a .s .now in
+    omega (arith, end-read (a .k) s (sym (c .before .before .before .digits .ensures) ∙ c .before .n .given .1), end-bound s (omega (arith, c .before .before .before .before .if1 .left)))
 
 part-is-shaped-end : tie.Need-part-is-shaped-end
 part-is-shaped-end c =
-    let s = c .before .before .before .before .before .before .args .s .now in
-    omega (arith, end-read s (sym (c .before .before .before .digits .ensures) ∙ c .before .n .given .1), end-bound s (omega (arith, c .before .before .before .before .if1 .left)))
+    let a = c .before .before .before .before .before .before .args in
+    let s = a .s .now in
+    omega (arith, end-read (a .k) s (sym (c .before .before .before .digits .ensures) ∙ c .before .n .given .1), end-bound s (omega (arith, c .before .before .before .before .if1 .left)))
 
 is-shaped-requires : tie.Need-is-shaped-requires
 is-shaped-requires c κs = search needs
 
 returns-3 : tie.Need-returns-3
 returns-3 c =
-    let s = c .before .before .before .before .before .before .before .before .before .args .s .now in
+    let a = c .before .before .before .before .before .before .before .before .before .args in
+    let s = a .s .now in
     let d = sym (c .before .before .before .before .before .before .digits .ensures) ∙ c .before .before .before .before .n .given .1 in
-    sym (next-read s (omega (arith, c .before .before .before .before .before .before .before .if1 .left)) (ap isShaped (sym (part-read s d)) ∙ sym (c .before .is-shaped .ensures) ∙ c .if2 .taken) ∙ d)
+    sym (next-read (a .k) s (omega (arith, c .before .before .before .before .before .before .before .if1 .left)) (ap isShaped (sym (part-read (a .k) s d)) ∙ sym (c .before .is-shaped .ensures) ∙ c .if2 .taken) ∙ d)
 
 returns-4 : tie.Need-returns-4
 returns-4 c =
-    let s = c .before .before .before .before .before .before .before .before .before .args .s .now in
+    let a = c .before .before .before .before .before .before .before .before .before .args in
+    let s = a .s .now in
     let d = sym (c .before .before .before .before .before .before .digits .ensures) ∙ c .before .before .before .before .n .given .1 in
-    sym (next-misshaped s (omega (arith, c .before .before .before .before .before .before .before .if1 .left)) (ap isShaped (sym (part-read s d)) ∙ sym (c .before .is-shaped .ensures) ∙ c .if2 .left))
+    sym (next-misshaped (a .k) s (omega (arith, c .before .before .before .before .before .before .before .if1 .left)) (ap isShaped (sym (part-read (a .k) s d)) ∙ sym (c .before .is-shaped .ensures) ∙ c .if2 .left))
 
 pub next-field-spec : {M : Type 1} → statement M
 next-field-spec =

@@ -2,7 +2,7 @@
 use mathlib.Core.Path.{ap}
 use mathlib.Core.List.{[], _∷_}
 use Rattle.rules.specs.declared.answers.Answer.{Answer}
-use Rattle.rules.specs.Replies.{told}
+use Rattle.rules.specs.Replies.{toldRefusal, told}
 use Rattle.replies.proofs.ReplyLaws.{start-alone, start-told}
 use borrow.Author.Needs.{needs}
 use Rattle.replies.proofs.put_answer.Statement.{statement}
@@ -29,8 +29,11 @@ enum-known-a-2 c = search needs
 put-value-requires : tie.Need-put-value-requires
 put-value-requires c κs = search needs
 
-enum-told-2 : tie.Need-enum-told-2
-enum-told-2 c = search needs
+enum-known-a-3 : tie.Need-enum-known-a-3
+enum-known-a-3 c = search needs
+
+put-field-requires : tie.Need-put-field-requires
+put-field-requires c κs = search needs
 
 same-length : tie.Need-same-length
 same-length c = search needs
@@ -66,8 +69,8 @@ same-length-4 c = search needs
 returns-4 : tie.Need-returns-4
 unfolding told
 returns-4 c =
-    let a = c .before .before .before .before .before .before .before .before .args in
-    start-alone _ (a .line) (c .before .before .before .before .before .reply-number .result) (told (a .a)) (c .before .before .before .before .before .reply-number .ensures) (ap (λ (x : Answer). told x .values) (c .enum-told2 .given .1)) (c .before .before .before .before .put-reply .ensures)
+    let a = c .before .before .before .before .before .before .before .before .before .before .before .before .before .args in
+    start-told _ (a .line) (c .before .before .before .before .before .before .before .before .before .before .reply-number .result) (told (a .a)) (toldRefusal (c .before .before .before .before .before .a3 .given .0 .0) .values) (c .before .before .before .before .before .before .before .before .before .before .reply-number .ensures) (ap (λ (y : Answer). told y .values) (c .before .before .before .before .before .a3 .given .1)) (c .before .before .before .before .before .before .before .before .before .put-reply .ensures) (c .before .before .put-field .ensures)
 
 pub put-answer-spec : {M : Type 1} → statement M
 put-answer-spec =
@@ -80,7 +83,8 @@ put-answer-spec =
     put-payment-requires
     enum-known-a-2
     put-value-requires
-    enum-told-2
+    enum-known-a-3
+    put-field-requires
     same-length
     returns
     same-length-2

@@ -1,6 +1,6 @@
 -- `refusal_number`: case by case of the definition.
 use mathlib.Core.Path.{sym, ap}
-use Rattle.rules.specs.Replies.{numberOf}
+use Rattle.rules.specs.Replies.{toldRefusal, numberOf}
 use borrow.Author.Needs.{needs}
 use Rattle.replies.proofs.refusal_number.Statement.{statement}
 use Rattle.replies.proofs.refusal_number.Tie as tie
@@ -69,87 +69,87 @@ enum-told-21 : tie.Need-enum-told-21
 enum-told-21 c = search needs
 
 returns : tie.Need-returns
-unfolding numberOf
+unfolding toldRefusal
 returns c = sym (ap numberOf (c .enum-told .given .1))
 
 returns-2 : tie.Need-returns-2
-unfolding numberOf
+unfolding toldRefusal
 returns-2 c = sym (ap numberOf (c .enum-told2 .given .1))
 
 returns-3 : tie.Need-returns-3
-unfolding numberOf
+unfolding toldRefusal
 returns-3 c = sym (ap numberOf (c .enum-told3 .given .1))
 
 returns-4 : tie.Need-returns-4
-unfolding numberOf
+unfolding toldRefusal
 returns-4 c = sym (ap numberOf (c .enum-told4 .given .1))
 
 returns-5 : tie.Need-returns-5
-unfolding numberOf
+unfolding toldRefusal
 returns-5 c = sym (ap numberOf (c .enum-told5 .given .1))
 
 returns-6 : tie.Need-returns-6
-unfolding numberOf
+unfolding toldRefusal
 returns-6 c = sym (ap numberOf (c .enum-told6 .given .1))
 
 returns-7 : tie.Need-returns-7
-unfolding numberOf
+unfolding toldRefusal
 returns-7 c = sym (ap numberOf (c .enum-told7 .given .1))
 
 returns-8 : tie.Need-returns-8
-unfolding numberOf
+unfolding toldRefusal
 returns-8 c = sym (ap numberOf (c .enum-told8 .given .1))
 
 returns-9 : tie.Need-returns-9
-unfolding numberOf
+unfolding toldRefusal
 returns-9 c = sym (ap numberOf (c .enum-told9 .given .1))
 
 returns-10 : tie.Need-returns-10
-unfolding numberOf
+unfolding toldRefusal
 returns-10 c = sym (ap numberOf (c .enum-told10 .given .1))
 
 returns-11 : tie.Need-returns-11
-unfolding numberOf
+unfolding toldRefusal
 returns-11 c = sym (ap numberOf (c .enum-told11 .given .1))
 
 returns-12 : tie.Need-returns-12
-unfolding numberOf
+unfolding toldRefusal
 returns-12 c = sym (ap numberOf (c .enum-told12 .given .1))
 
 returns-13 : tie.Need-returns-13
-unfolding numberOf
+unfolding toldRefusal
 returns-13 c = sym (ap numberOf (c .enum-told13 .given .1))
 
 returns-14 : tie.Need-returns-14
-unfolding numberOf
+unfolding toldRefusal
 returns-14 c = sym (ap numberOf (c .enum-told14 .given .1))
 
 returns-15 : tie.Need-returns-15
-unfolding numberOf
+unfolding toldRefusal
 returns-15 c = sym (ap numberOf (c .enum-told15 .given .1))
 
 returns-16 : tie.Need-returns-16
-unfolding numberOf
+unfolding toldRefusal
 returns-16 c = sym (ap numberOf (c .enum-told16 .given .1))
 
 returns-17 : tie.Need-returns-17
-unfolding numberOf
+unfolding toldRefusal
 returns-17 c = sym (ap numberOf (c .enum-told17 .given .1))
 
 returns-18 : tie.Need-returns-18
-unfolding numberOf
+unfolding toldRefusal
 returns-18 c = sym (ap numberOf (c .enum-told18 .given .1))
 
 returns-19 : tie.Need-returns-19
-unfolding numberOf
+unfolding toldRefusal
 returns-19 c = sym (ap numberOf (c .enum-told19 .given .1))
 
 returns-20 : tie.Need-returns-20
-unfolding numberOf
+unfolding toldRefusal
 returns-20 c = sym (ap numberOf (c .enum-told20 .given .1))
 
 returns-21 : tie.Need-returns-21
-unfolding numberOf
+unfolding toldRefusal
 returns-21 c = sym (ap numberOf (c .enum-told21 .given .1))
 
 pub refusal-number-spec : {M : Type 1} → statement M

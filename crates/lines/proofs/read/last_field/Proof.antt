@@ -2,9 +2,10 @@
 use mathlib.Core.Path.{sym, _∙_}
 use native.Mathlib.Omega.{arith}
 use lib.ListN.{length-drop}
+use Rattle.rules.specs.Lines.{andRead}
 use Rattle.fields.proofs.FieldLaws.{after-read}
-use Rattle.lines.proofs.TakingLaws.{take-not, take-one, take-more, take-end}
-use Rattle.lines.specs.Reading.{lastField}
+use Rattle.lines.specs.Reading.{one}
+use Rattle.lines.proofs.LineLaws.{not-read, one-more, one-too-many, no-more}
 use borrow.Author.Needs.{needs}
 use Rattle.lines.proofs.read.last_field.Statement.{statement}
 use Rattle.lines.proofs.read.last_field.Tie as tie
@@ -19,23 +20,27 @@ enum-told : tie.Need-enum-told
 enum-told c = search needs
 
 returns : tie.Need-returns
-unfolding lastField
-returns c = sym (take-not 0 _ _ _ (sym (c .before .before .next-field .ensures) ∙ c .enum-told .given .1))
+unfolding one
+returns c = not-read _ 0 _ (sym (c .before .before .next-field .ensures) ∙ c .enum-told .given .1)
+
+add-t8 : tie.Need-add-t8
+add-t8 c = search needs
 
 returns-2 : tie.Need-returns-2
-unfolding lastField
+unfolding one andRead
 returns-2 c =
-    let s = c .before .before .before .before .before .before .args .s .now in
+    let a = c .before .before .before .before .before .before .args in
     let e = sym (c .before .before .before .before .next-field .ensures) ∙ c .before .before .n .given .1 in
-    sym (take-one 0 _ _ _ e (sym (after-read s e)) (take-more _ _ _ (rw length-drop (omega (arith, c .if1 .taken)))))
+    one-more (a .k) 0 (a .s .now) e (sym (after-read (a .k) (a .s .now) e)) (one-too-many _ _ (rw length-drop (omega (arith, c .if1 .taken))))
 
 returns-3 : tie.Need-returns-3
-unfolding lastField
+unfolding one andRead
 returns-3 c =
-    let s = c .before .before .before .before .before .before .args .s .now in
+    let a = c .before .before .before .before .before .before .args in
     let e = sym (c .before .before .before .before .next-field .ensures) ∙ c .before .before .n .given .1 in
-    sym (take-one 0 _ _ _ e (sym (after-read s e)) (take-end _ _ _ (rw length-drop (omega (arith, c .if1 .left)))))
+    one-more (a .k) 0 (a .s .now) e (sym (after-read (a .k) (a .s .now) e)) (no-more _ _ (rw length-drop (omega (arith, c .if1 .left))))
 
 pub last-field-spec : {M : Type 1} → statement M
 last-field-spec =
-    tie.close (tie.spec next-field-requires enum-known-n enum-told returns returns-2 returns-3)
+    tie.close
+    (tie.spec next-field-requires enum-known-n enum-told returns add-t8 returns-2 returns-3)

@@ -1,190 +1,21 @@
--- `read::read_line`: the word decides the form; where it is none of the nine, no form reads the line.
+-- `read::read_line`: the whole line, or of an over-long one the field that it tells.
 use mathlib.Core.Path.{sym, _∙_}
-use native.Mathlib.Omega.{arith}
-use lib.ListN.{length-take}
-use Rattle.rules.specs.Lists.{any, bytes}
-use Rattle.rules.specs.Lines.{forms, depositForm, claimForm, transferForm, withdrawForm, sendForm, settleForm, grantForm, signForm, traceForm}
-use Rattle.fields.proofs.FieldLaws.{end-within}
-use Rattle.lines.proofs.LineLaws.{line-long, line-form, line-none, deposit-alone, claim-alone, transfer-alone, withdraw-alone, send-alone, settle-alone, grant-alone, sign-alone, trace-alone}
+use Rattle.lines.proofs.LineLaws.{line-short, line-long}
 use borrow.Author.Needs.{needs}
 use Rattle.lines.proofs.read.read_line.Statement.{statement}
 use Rattle.lines.proofs.read.read_line.Tie as tie
 
+unread-field-requires : tie.Need-unread-field-requires
+unread-field-requires c κs = search needs
+
 returns : tie.Need-returns
-returns c = sym (line-long (c .before .before .args .s .now) (c .if1 .taken))
+returns c = c .unread-field .ensures ∙ sym (line-long _ (c .before .if1 .taken))
 
-field-end-requires : tie.Need-field-end-requires
-field-end-requires c κs = search needs
-
-slice-aggregate-word : tie.Need-slice-aggregate-word
-slice-aggregate-word c = rw length-take (omega (arith, end-within (c .before .before .before .before .args .s .now), c .before .field-end .ensures))
-
-after-field-requires : tie.Need-after-field-requires
-after-field-requires c κs = search needs
-
-slice-aggregate-word-is : tie.Need-slice-aggregate-word-is
-slice-aggregate-word-is c = search needs
-
-word-is-requires : tie.Need-word-is-requires
-word-is-requires c κs = search needs
-
-read-deposit-requires : tie.Need-read-deposit-requires
-read-deposit-requires c κs = search needs
+read-whole-requires : tie.Need-read-whole-requires
+read-whole-requires c κs = search needs
 
 returns-2 : tie.Need-returns-2
-unfolding bytes depositForm
-returns-2 c = line-form (c .before .before .before .before .before .before .before .before .before .args .s .now) (c .before .before .before .before .before .before .before .if1 .left) (c .before .before .before .before .before .before .field-end .ensures) depositForm deposit-alone (c .before .before .word-is .ensures) (c .before .if2 .taken) (c .before .before .before .before .after-field .ensures) (c .read-deposit .ensures)
-
-slice-aggregate-word-is-2 : tie.Need-slice-aggregate-word-is-2
-slice-aggregate-word-is-2 c = search needs
-
-word-is-requires-2 : tie.Need-word-is-requires-2
-word-is-requires-2 c κs = search needs
-
-read-claim-requires : tie.Need-read-claim-requires
-read-claim-requires c κs = search needs
-
-returns-3 : tie.Need-returns-3
-unfolding bytes claimForm
-returns-3 c = line-form (c .before .before .before .before .before .before .before .before .before .before .before .before .args .s .now) (c .before .before .before .before .before .before .before .before .before .before .if1 .left) (c .before .before .before .before .before .before .before .before .before .field-end .ensures) claimForm claim-alone (c .before .before .word-is2 .ensures) (c .before .if3 .taken) (c .before .before .before .before .before .before .before .after-field .ensures) (c .read-claim .ensures)
-
-slice-aggregate-word-is-3 : tie.Need-slice-aggregate-word-is-3
-slice-aggregate-word-is-3 c = search needs
-
-word-is-requires-3 : tie.Need-word-is-requires-3
-word-is-requires-3 c κs = search needs
-
-read-transfer-requires : tie.Need-read-transfer-requires
-read-transfer-requires c κs = search needs
-
-returns-4 : tie.Need-returns-4
-unfolding bytes transferForm
-returns-4 c = line-form (c .before .before .before .before .before .before .before .before .before .before .before .before .before .before .before .args .s .now) (c .before .before .before .before .before .before .before .before .before .before .before .before .before .if1 .left) (c .before .before .before .before .before .before .before .before .before .before .before .before .field-end .ensures) transferForm transfer-alone (c .before .before .word-is3 .ensures) (c .before .if4 .taken) (c .before .before .before .before .before .before .before .before .before .before .after-field .ensures) (c .read-transfer .ensures)
-
-slice-aggregate-word-is-4 : tie.Need-slice-aggregate-word-is-4
-slice-aggregate-word-is-4 c = search needs
-
-word-is-requires-4 : tie.Need-word-is-requires-4
-word-is-requires-4 c κs = search needs
-
-read-withdraw-requires : tie.Need-read-withdraw-requires
-read-withdraw-requires c κs = search needs
-
-returns-5 : tie.Need-returns-5
-unfolding bytes withdrawForm
-returns-5 c = line-form (c .before .before .before .before .before .before .before .before .before .before .before .before .before .before .before .before .before .before .args .s .now) (c .before .before .before .before .before .before .before .before .before .before .before .before .before .before .before .before .if1 .left) (c .before .before .before .before .before .before .before .before .before .before .before .before .before .before .before .field-end .ensures) withdrawForm withdraw-alone (c .before .before .word-is4 .ensures) (c .before .if5 .taken) (c .before .before .before .before .before .before .before .before .before .before .before .before .before .after-field .ensures) (c .read-withdraw .ensures)
-
-slice-aggregate-word-is-5 : tie.Need-slice-aggregate-word-is-5
-slice-aggregate-word-is-5 c = search needs
-
-word-is-requires-5 : tie.Need-word-is-requires-5
-word-is-requires-5 c κs = search needs
-
-read-send-requires : tie.Need-read-send-requires
-read-send-requires c κs = search needs
-
-returns-6 : tie.Need-returns-6
-unfolding bytes sendForm
-returns-6 c = line-form (c .before .before .before .before .before .before .before .before .before .before .before .before .before .before .before .before .before .before .before .before .before .args .s .now) (c .before .before .before .before .before .before .before .before .before .before .before .before .before .before .before .before .before .before .before .if1 .left) (c .before .before .before .before .before .before .before .before .before .before .before .before .before .before .before .before .before .before .field-end .ensures) sendForm send-alone (c .before .before .word-is5 .ensures) (c .before .if6 .taken) (c .before .before .before .before .before .before .before .before .before .before .before .before .before .before .before .before .after-field .ensures) (c .read-send .ensures)
-
-slice-aggregate-word-is-6 : tie.Need-slice-aggregate-word-is-6
-slice-aggregate-word-is-6 c = search needs
-
-word-is-requires-6 : tie.Need-word-is-requires-6
-word-is-requires-6 c κs = search needs
-
-read-settle-requires : tie.Need-read-settle-requires
-read-settle-requires c κs = search needs
-
-returns-7 : tie.Need-returns-7
-unfolding bytes settleForm
-returns-7 c = line-form (c .before .before .before .before .before .before .before .before .before .before .before .before .before .before .before .before .before .before .before .before .before .before .before .before .args .s .now) (c .before .before .before .before .before .before .before .before .before .before .before .before .before .before .before .before .before .before .before .before .before .before .if1 .left) (c .before .before .before .before .before .before .before .before .before .before .before .before .before .before .before .before .before .before .before .before .before .field-end .ensures) settleForm settle-alone (c .before .before .word-is6 .ensures) (c .before .if7 .taken) (c .before .before .before .before .before .before .before .before .before .before .before .before .before .before .before .before .before .before .before .after-field .ensures) (c .read-settle .ensures)
-
-slice-aggregate-word-is-7 : tie.Need-slice-aggregate-word-is-7
-slice-aggregate-word-is-7 c = search needs
-
-word-is-requires-7 : tie.Need-word-is-requires-7
-word-is-requires-7 c κs = search needs
-
-read-grant-requires : tie.Need-read-grant-requires
-read-grant-requires c κs = search needs
-
-returns-8 : tie.Need-returns-8
-unfolding bytes grantForm
-returns-8 c = line-form (c .before .before .before .before .before .before .before .before .before .before .before .before .before .before .before .before .before .before .before .before .before .before .before .before .before .before .before .args .s .now) (c .before .before .before .before .before .before .before .before .before .before .before .before .before .before .before .before .before .before .before .before .before .before .before .before .before .if1 .left) (c .before .before .before .before .before .before .before .before .before .before .before .before .before .before .before .before .before .before .before .before .before .before .before .before .field-end .ensures) grantForm grant-alone (c .before .before .word-is7 .ensures) (c .before .if8 .taken) (c .before .before .before .before .before .before .before .before .before .before .before .before .before .before .before .before .before .before .before .before .before .before .after-field .ensures) (c .read-grant .ensures)
-
-slice-aggregate-word-is-8 : tie.Need-slice-aggregate-word-is-8
-slice-aggregate-word-is-8 c = search needs
-
-word-is-requires-8 : tie.Need-word-is-requires-8
-word-is-requires-8 c κs = search needs
-
-read-sign-requires : tie.Need-read-sign-requires
-read-sign-requires c κs = search needs
-
-returns-9 : tie.Need-returns-9
-unfolding bytes signForm
-returns-9 c = line-form (c .before .before .before .before .before .before .before .before .before .before .before .before .before .before .before .before .before .before .before .before .before .before .before .before .before .before .before .before .before .before .args .s .now) (c .before .before .before .before .before .before .before .before .before .before .before .before .before .before .before .before .before .before .before .before .before .before .before .before .before .before .before .before .if1 .left) (c .before .before .before .before .before .before .before .before .before .before .before .before .before .before .before .before .before .before .before .before .before .before .before .before .before .before .before .field-end .ensures) signForm sign-alone (c .before .before .word-is8 .ensures) (c .before .if9 .taken) (c .before .before .before .before .before .before .before .before .before .before .before .before .before .before .before .before .before .before .before .before .before .before .before .before .before .after-field .ensures) (c .read-sign .ensures)
-
-slice-aggregate-word-is-9 : tie.Need-slice-aggregate-word-is-9
-slice-aggregate-word-is-9 c = search needs
-
-word-is-requires-9 : tie.Need-word-is-requires-9
-word-is-requires-9 c κs = search needs
-
-read-trace-requires : tie.Need-read-trace-requires
-read-trace-requires c κs = search needs
-
-returns-10 : tie.Need-returns-10
-unfolding bytes traceForm
-returns-10 c = line-form (c .before .before .before .before .before .before .before .before .before .before .before .before .before .before .before .before .before .before .before .before .before .before .before .before .before .before .before .before .before .before .before .before .before .args .s .now) (c .before .before .before .before .before .before .before .before .before .before .before .before .before .before .before .before .before .before .before .before .before .before .before .before .before .before .before .before .before .before .before .if1 .left) (c .before .before .before .before .before .before .before .before .before .before .before .before .before .before .before .before .before .before .before .before .before .before .before .before .before .before .before .before .before .before .field-end .ensures) traceForm trace-alone (c .before .before .word-is9 .ensures) (c .before .if10 .taken) (c .before .before .before .before .before .before .before .before .before .before .before .before .before .before .before .before .before .before .before .before .before .before .before .before .before .before .before .before .after-field .ensures) (c .read-trace .ensures)
-
-returns-11 : tie.Need-returns-11
-unfolding any bytes forms depositForm claimForm transferForm withdrawForm sendForm settleForm grantForm signForm traceForm
-returns-11 c = sym (line-none (c .before .before .before .before .before .before .before .before .before .before .before .before .before .before .before .before .before .before .before .before .before .before .before .before .before .before .before .before .before .before .before .before .args .s .now) (c .before .before .before .before .before .before .before .before .before .before .before .before .before .before .before .before .before .before .before .before .before .before .before .before .before .before .before .before .before .before .if1 .left) (c .before .before .before .before .before .before .before .before .before .before .before .before .before .before .before .before .before .before .before .before .before .before .before .before .before .before .before .before .before .field-end .ensures) (rw (sym (c .before .before .before .before .before .before .before .before .before .before .before .before .before .before .before .before .before .before .before .before .before .before .before .before .before .word-is .ensures) ∙ c .before .before .before .before .before .before .before .before .before .before .before .before .before .before .before .before .before .before .before .before .before .before .before .before .if2 .left, sym (c .before .before .before .before .before .before .before .before .before .before .before .before .before .before .before .before .before .before .before .before .before .before .word-is2 .ensures) ∙ c .before .before .before .before .before .before .before .before .before .before .before .before .before .before .before .before .before .before .before .before .before .if3 .left, sym (c .before .before .before .before .before .before .before .before .before .before .before .before .before .before .before .before .before .before .before .word-is3 .ensures) ∙ c .before .before .before .before .before .before .before .before .before .before .before .before .before .before .before .before .before .before .if4 .left, sym (c .before .before .before .before .before .before .before .before .before .before .before .before .before .before .before .before .word-is4 .ensures) ∙ c .before .before .before .before .before .before .before .before .before .before .before .before .before .before .before .if5 .left, sym (c .before .before .before .before .before .before .before .before .before .before .before .before .before .word-is5 .ensures) ∙ c .before .before .before .before .before .before .before .before .before .before .before .before .if6 .left, sym (c .before .before .before .before .before .before .before .before .before .before .word-is6 .ensures) ∙ c .before .before .before .before .before .before .before .before .before .if7 .left, sym (c .before .before .before .before .before .before .before .word-is7 .ensures) ∙ c .before .before .before .before .before .before .if8 .left, sym (c .before .before .before .before .word-is8 .ensures) ∙ c .before .before .before .if9 .left, sym (c .before .word-is9 .ensures) ∙ c .if10 .left)))
+returns-2 c = c .read-whole .ensures ∙ sym (line-short _ (c .before .if1 .left))
 
 pub read-line-spec : {M : Type 1} → statement M
-read-line-spec =
-    tie.close
-    (tie.spec
-    returns
-    field-end-requires
-    slice-aggregate-word
-    after-field-requires
-    slice-aggregate-word-is
-    word-is-requires
-    read-deposit-requires
-    returns-2
-    slice-aggregate-word-is-2
-    word-is-requires-2
-    read-claim-requires
-    returns-3
-    slice-aggregate-word-is-3
-    word-is-requires-3
-    read-transfer-requires
-    returns-4
-    slice-aggregate-word-is-4
-    word-is-requires-4
-    read-withdraw-requires
-    returns-5
-    slice-aggregate-word-is-5
-    word-is-requires-5
-    read-send-requires
-    returns-6
-    slice-aggregate-word-is-6
-    word-is-requires-6
-    read-settle-requires
-    returns-7
-    slice-aggregate-word-is-7
-    word-is-requires-7
-    read-grant-requires
-    returns-8
-    slice-aggregate-word-is-8
-    word-is-requires-8
-    read-sign-requires
-    returns-9
-    slice-aggregate-word-is-9
-    word-is-requires-9
-    read-trace-requires
-    returns-10
-    returns-11)
+read-line-spec = tie.close (tie.spec unread-field-requires returns read-whole-requires returns-2)

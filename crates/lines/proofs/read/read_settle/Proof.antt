@@ -1,8 +1,7 @@
--- `read::read_settle`: one number is taken, and nothing is left.
-use mathlib.Core.Path.{sym, _∙_}
-use Rattle.lines.proofs.TakingLaws.{last-not, last-one}
-use Rattle.lines.specs.Reading.{readsAs}
-use Rattle.rules.specs.Lines.{settleForm}
+-- `read::read_settle`: the form's call, or the field that does not read.
+use mathlib.Core.Path.{sym, ap, _∙_}
+use Rattle.rules.specs.Lines.{settleForm, formed}
+use Rattle.lines.specs.Reading.{one}
 use borrow.Author.Needs.{needs}
 use Rattle.lines.proofs.read.read_settle.Statement.{statement}
 use Rattle.lines.proofs.read.read_settle.Tie as tie
@@ -13,17 +12,17 @@ last-field-requires c κs = search needs
 enum-known-n : tie.Need-enum-known-n
 enum-known-n c = search needs
 
-enum-told : tie.Need-enum-told
-enum-told c = search needs
+enum-known-j : tie.Need-enum-known-j
+enum-known-j c = search needs
 
 returns : tie.Need-returns
-unfolding readsAs settleForm
-returns c = sym (last-not _ _ _ (sym (c .before .before .last-field .ensures) ∙ c .enum-told .given .1))
+unfolding formed settleForm one
+returns c = ap (formed settleForm) (sym (ap one (c .before .n .given .1)) ∙ c .before .before .before .last-field .ensures)
 
 returns-2 : tie.Need-returns-2
-unfolding readsAs settleForm
-returns-2 c = sym (last-one _ _ _ (sym (c .before .before .before .last-field .ensures) ∙ c .before .n .given .1))
+unfolding formed one
+returns-2 c = ap (formed settleForm) (sym (ap one (c .before .j .given .1)) ∙ c .before .before .before .last-field .ensures)
 
 pub read-settle-spec : {M : Type 1} → statement M
 read-settle-spec =
-    tie.close (tie.spec last-field-requires enum-known-n enum-told returns returns-2)
+    tie.close (tie.spec last-field-requires enum-known-n enum-known-j returns returns-2)

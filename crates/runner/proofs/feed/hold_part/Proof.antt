@@ -3,6 +3,7 @@ use mathlib.Core.Path.{_≡_, refl, ap, _∙_}
 use native.Mathlib.Omega.{arith}
 use lib.ListN.{length, take}
 use lib.Seq.{take-all}
+use Rattle.rules.specs.Limits.{mostHeld}
 use Rattle.runner.specs.Machine.{holds}
 use Rattle.runner.proofs.Parts.{held-none, held-next}
 use borrow.Author.Needs.{needs}
@@ -11,7 +12,7 @@ use Rattle.runner.proofs.feed.hold_part.Tie as tie
 
 abbrev Inv-loop : tie.InvT-loop
 Inv-loop hold₀ held part n₀ k₀ hold n k =
-    (k ≤ length part) × (take n hold ≡ holds (take held hold₀) (take k part)) × (n ≤ 121) × (length hold ≡ length hold₀)
+    (k ≤ length part) × (take n hold ≡ holds (take held hold₀) (take k part)) × (n ≤ mostHeld) × (length hold ≡ length hold₀)
 
 abbrev μ-loop : tie.MeasureT-loop
 μ-loop hold₀ held part n₀ k₀ hold n k = length part - k

@@ -1,3 +1,4 @@
+-- `running::hear`: a Malformed line is told with its field; of a call, what refuses it, or that it is due.
 use mathlib.Core.Path.{sym, _∙_}
 use Rattle.rules.specs.State.{Book}
 use Rattle.rules.specs.Answer.{bookOf}
@@ -11,11 +12,11 @@ use Rattle.runner.proofs.running.hear.Tie as tie
 book : tie.Start → Book
 book c = bookOf (deskWith (c .args .balances .now) (c .args .holders .now) (c .args .lifetime .now) (c .args .settled .now) (c .args .counts)) (c .args .inbox .now) (c .args .outbox .now) (c .args .history .now)
 
-enum-told : tie.Need-enum-told
-enum-told c = search needs
-
 enum-known-l : tie.Need-enum-known-l
 enum-known-l c = search needs
+
+enum-known-l-2 : tie.Need-enum-known-l-2
+enum-known-l-2 c = search needs
 
 call-reply-requires : tie.Need-call-reply-requires
 call-reply-requires c κs = search needs
@@ -26,27 +27,27 @@ says-all-requires c κs = search needs
 returns : tie.Need-returns
 unfolding book
 returns c =
-    let b : Book = book (c .before .before .before .before .before) in
-    rw (c .enum-told .given .1) (malformed-said b)
+    let b : Book = book (c .before .before .before .before .before .before) in
+    rw (c .before .l .given .1) (malformed-said b _)
 
 returns-2 : tie.Need-returns-2
 unfolding book
 returns-2 c =
     let b : Book = book (c .before .before .before .before .before .before .before .before .before) in
-    rw (c .before .before .before .before .l .given .1) (call-said b _ (c .before .before .call-reply .result) (c .before .before .call-reply .ensures) (sym (c .before .says-all .ensures) ∙ c .if1 .taken))
+    rw (c .before .before .before .before .l2 .given .1) (call-said b _ (c .before .before .call-reply .result) (c .before .before .call-reply .ensures) (sym (c .before .says-all .ensures) ∙ c .if1 .taken))
 
 returns-3 : tie.Need-returns-3
 unfolding book
 returns-3 c =
     let b : Book = book (c .before .before .before .before .before .before .before .before .before) in
-    rw (c .before .before .before .before .l .given .1) (call-due b _ (c .before .before .call-reply .result) (c .before .before .call-reply .ensures) (sym (c .before .says-all .ensures) ∙ c .if1 .left))
+    rw (c .before .before .before .before .l2 .given .1) (call-due b _ (c .before .before .call-reply .result) (c .before .before .call-reply .ensures) (sym (c .before .says-all .ensures) ∙ c .if1 .left))
 
 pub hear-spec : {M : Type 1} → statement M
 hear-spec =
     tie.close
     (tie.spec
-    enum-told
     enum-known-l
+    enum-known-l-2
     call-reply-requires
     says-all-requires
     returns
