@@ -12,6 +12,7 @@ use rules::calls::SignFields;
 use rules::calls::TransferFields;
 use rules::calls::WithdrawalFields;
 use rules::limits::MOST_BYTES;
+use rules::limits::MOST_HELD;
 use rules::rows::Deposit;
 use rules::rows::DepositNumber;
 use rules::rows::Nonce;
@@ -40,12 +41,13 @@ enum Four {
     FailsAt(u64),
 }
 
-// A line "has at most 120 bytes". One that has more is read for the field that it tells.
+// A line "has at most 120 bytes". One that has more is read for the field that it tells, and no further than it would
+// be held.
 pub fn read_line(s: &[u8]) -> Line
     ensures { λ r. ⌜ r ≡ readLine (now (s .entry)) ⌝ }
 {
     if MOST_BYTES < s.len() {
-        return Line::Malformed(unread_field(s));
+        return Line::Malformed(unread_field(&s[..MOST_HELD]));
     }
     read_whole(s)
 }
@@ -128,45 +130,54 @@ fn last_field(s: &[u8], k: u64) -> Field
     Field::Number(n)
 }
 
-// Two numbers from field k on, and nothing after them.
-fn two_fields(s: &[u8], k: u64) -> Two
-    requires { ⌜ k + 1 < highestField ⌝ }
-    ensures { λ r. ⌜ two r ≡ wantedIn k 2 (now (s .entry)) ⌝ }
+// Two numbers, and nothing after them.
+fn two_fields(s: &[u8]) -> Two
+    ensures { λ r. ⌜ two r ≡ wantedIn 1 2 (now (s .entry)) ⌝ }
 {
-    let ReadField::Number(first, end) = next_field(s, k) else {
-        return Two::FailsAt(k);
+    let ReadField::Number(first, end) = next_field(s, 1) else {
+        return Two::FailsAt(1);
     };
-    match last_field(after_field(s, end), k + 1) {
+    match last_field(after_field(s, end), 2) {
         Field::Number(second) => Two::Numbers(first, second),
         Field::FailsAt(j) => Two::FailsAt(j),
     }
 }
 
 // Three of them.
-fn three_fields(s: &[u8], k: u64) -> Three
-    requires { ⌜ k + 2 < highestField ⌝ }
-    ensures { λ r. ⌜ three r ≡ wantedIn k 3 (now (s .entry)) ⌝ }
+fn three_fields(s: &[u8]) -> Three
+    ensures { λ r. ⌜ three r ≡ wantedIn 1 3 (now (s .entry)) ⌝ }
 {
-    let ReadField::Number(first, end) = next_field(s, k) else {
-        return Three::FailsAt(k);
+    let ReadField::Number(first, end) = next_field(s, 1) else {
+        return Three::FailsAt(1);
     };
-    match two_fields(after_field(s, end), k + 1) {
-        Two::Numbers(second, third) => Three::Numbers(first, second, third),
-        Two::FailsAt(j) => Three::FailsAt(j),
+    let s = after_field(s, end);
+    let ReadField::Number(second, end) = next_field(s, 2) else {
+        return Three::FailsAt(2);
+    };
+    match last_field(after_field(s, end), 3) {
+        Field::Number(third) => Three::Numbers(first, second, third),
+        Field::FailsAt(j) => Three::FailsAt(j),
     }
 }
 
 // Four of them.
-fn four_fields(s: &[u8], k: u64) -> Four
-    requires { ⌜ k + 3 < highestField ⌝ }
-    ensures { λ r. ⌜ four r ≡ wantedIn k 4 (now (s .entry)) ⌝ }
+fn four_fields(s: &[u8]) -> Four
+    ensures { λ r. ⌜ four r ≡ wantedIn 1 4 (now (s .entry)) ⌝ }
 {
-    let ReadField::Number(first, end) = next_field(s, k) else {
-        return Four::FailsAt(k);
+    let ReadField::Number(first, end) = next_field(s, 1) else {
+        return Four::FailsAt(1);
     };
-    match three_fields(after_field(s, end), k + 1) {
-        Three::Numbers(second, third, fourth) => Four::Numbers(first, second, third, fourth),
-        Three::FailsAt(j) => Four::FailsAt(j),
+    let s = after_field(s, end);
+    let ReadField::Number(second, end) = next_field(s, 2) else {
+        return Four::FailsAt(2);
+    };
+    let s = after_field(s, end);
+    let ReadField::Number(third, end) = next_field(s, 3) else {
+        return Four::FailsAt(3);
+    };
+    match last_field(after_field(s, end), 4) {
+        Field::Number(fourth) => Four::Numbers(first, second, third, fourth),
+        Field::FailsAt(j) => Four::FailsAt(j),
     }
 }
 
@@ -174,7 +185,7 @@ fn four_fields(s: &[u8], k: u64) -> Four
 fn read_deposit(s: &[u8]) -> Line
     ensures { λ r. ⌜ r ≡ formed depositForm (wantedIn 1 4 (now (s .entry))) ⌝ }
 {
-    match four_fields(s, 1) {
+    match four_fields(s) {
         Four::Numbers(n, asset, amount, member) => {
             let number = DepositNumber(n);
             Line::Reads(Call::Deposit(Deposit {
@@ -192,7 +203,7 @@ fn read_deposit(s: &[u8]) -> Line
 fn read_claim(s: &[u8]) -> Line
     ensures { λ r. ⌜ r ≡ formed claimForm (wantedIn 1 4 (now (s .entry))) ⌝ }
 {
-    match four_fields(s, 1) {
+    match four_fields(s) {
         Four::Numbers(member, n, asset, amount) => {
             let number = DepositNumber(n);
             Line::Reads(Call::Claim(ClaimFields {
@@ -210,7 +221,7 @@ fn read_claim(s: &[u8]) -> Line
 fn read_transfer(s: &[u8]) -> Line
     ensures { λ r. ⌜ r ≡ formed transferForm (wantedIn 1 4 (now (s .entry))) ⌝ }
 {
-    match four_fields(s, 1) {
+    match four_fields(s) {
         Four::Numbers(from, to, asset, amount) => Line::Reads(Call::Transfer(TransferFields {
             from,
             to,
@@ -225,7 +236,7 @@ fn read_transfer(s: &[u8]) -> Line
 fn read_withdraw(s: &[u8]) -> Line
     ensures { λ r. ⌜ r ≡ formed withdrawForm (wantedIn 1 4 (now (s .entry))) ⌝ }
 {
-    match four_fields(s, 1) {
+    match four_fields(s) {
         Four::Numbers(member, asset, amount, payee) => Line::Reads(Call::Withdraw(WithdrawalFields {
             member,
             asset,
@@ -260,7 +271,7 @@ fn read_settle(s: &[u8]) -> Line
 fn read_grant(s: &[u8]) -> Line
     ensures { λ r. ⌜ r ≡ formed grantForm (wantedIn 1 3 (now (s .entry))) ⌝ }
 {
-    match three_fields(s, 1) {
+    match three_fields(s) {
         Three::Numbers(from, to, domain) => Line::Reads(Call::Grant(GrantFields {
             from,
             to,
@@ -274,7 +285,7 @@ fn read_grant(s: &[u8]) -> Line
 fn read_sign(s: &[u8]) -> Line
     ensures { λ r. ⌜ r ≡ formed signForm (wantedIn 1 2 (now (s .entry))) ⌝ }
 {
-    match two_fields(s, 1) {
+    match two_fields(s) {
         Two::Numbers(member, domain) => Line::Reads(Call::Sign(SignFields { member, domain })),
         Two::FailsAt(j) => Line::Malformed(j),
     }

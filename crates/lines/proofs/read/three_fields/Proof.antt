@@ -1,7 +1,7 @@
--- `read::three_fields`: one number, and then the others.
+-- `read::three_fields`: one number after the other, and then the last.
 use mathlib.Core.Path.{sym, ap, _∙_}
 use Rattle.rules.specs.Lines.{andRead}
-use Rattle.lines.specs.Reading.{two, three}
+use Rattle.lines.specs.Reading.{one, three}
 use Rattle.lines.proofs.LineLaws.{not-read, one-more}
 use borrow.Author.Needs.{needs}
 use Rattle.lines.proofs.read.three_fields.Statement.{statement}
@@ -18,30 +18,43 @@ enum-told c = search needs
 
 returns : tie.Need-returns
 unfolding three
-returns c = not-read _ 2 _ (sym (c .before .before .next-field .ensures) ∙ c .enum-told .given .1)
+returns c = not-read 1 2 _ (sym (c .before .before .next-field .ensures) ∙ c .enum-told .given .1)
 
 after-field-requires : tie.Need-after-field-requires
 after-field-requires c κs = search needs
 
-add-two-fields : tie.Need-add-two-fields
-add-two-fields c = search needs
-
-two-fields-requires : tie.Need-two-fields-requires
-two-fields-requires c κs = search needs
+next-field-requires-2 : tie.Need-next-field-requires-2
+next-field-requires-2 c κs = search needs
 
 enum-known-second : tie.Need-enum-known-second
 enum-known-second c = search needs
 
+enum-told-2 : tie.Need-enum-told-2
+enum-told-2 c = search needs
+
+returns-2 : tie.Need-returns-2
+unfolding three andRead
+returns-2 c = one-more 1 2 _ (sym (c .before .before .before .before .before .before .before .next-field .ensures) ∙ c .before .before .before .before .before .first .given .1) (c .before .before .before .after-field .ensures) (not-read 2 1 _ (sym (c .before .before .next-field2 .ensures) ∙ c .enum-told2 .given .1))
+
+after-field-requires-2 : tie.Need-after-field-requires-2
+after-field-requires-2 c κs = search needs
+
+last-field-requires : tie.Need-last-field-requires
+last-field-requires c κs = search needs
+
+enum-known-third : tie.Need-enum-known-third
+enum-known-third c = search needs
+
 enum-known-j : tie.Need-enum-known-j
 enum-known-j c = search needs
 
-returns-2 : tie.Need-returns-2
-unfolding three two andRead
-returns-2 c = one-more _ 2 _ (sym (c .before .before .before .before .before .before .before .before .next-field .ensures) ∙ c .before .before .before .before .before .before .first .given .1) (c .before .before .before .before .after-field .ensures) (sym (ap two (c .before .second .given .1)) ∙ c .before .before .before .two-fields .ensures)
-
 returns-3 : tie.Need-returns-3
-unfolding three two andRead
-returns-3 c = one-more _ 2 _ (sym (c .before .before .before .before .before .before .before .before .next-field .ensures) ∙ c .before .before .before .before .before .before .first .given .1) (c .before .before .before .before .after-field .ensures) (sym (ap two (c .before .j .given .1)) ∙ c .before .before .before .two-fields .ensures)
+unfolding three one andRead
+returns-3 c = one-more 1 2 _ (sym (c .before .before .before .before .before .before .before .before .before .before .before .before .before .next-field .ensures) ∙ c .before .before .before .before .before .before .before .before .before .before .before .first .given .1) (c .before .before .before .before .before .before .before .before .before .after-field .ensures) (one-more 2 1 _ (sym (c .before .before .before .before .before .before .before .before .next-field2 .ensures) ∙ c .before .before .before .before .before .before .second .given .1) (c .before .before .before .before .after-field2 .ensures) (sym (ap one (c .before .third .given .1)) ∙ c .before .before .before .last-field .ensures))
+
+returns-4 : tie.Need-returns-4
+unfolding three one andRead
+returns-4 c = one-more 1 2 _ (sym (c .before .before .before .before .before .before .before .before .before .before .before .before .before .next-field .ensures) ∙ c .before .before .before .before .before .before .before .before .before .before .before .first .given .1) (c .before .before .before .before .before .before .before .before .before .after-field .ensures) (one-more 2 1 _ (sym (c .before .before .before .before .before .before .before .before .next-field2 .ensures) ∙ c .before .before .before .before .before .before .second .given .1) (c .before .before .before .before .after-field2 .ensures) (sym (ap one (c .before .j .given .1)) ∙ c .before .before .before .last-field .ensures))
 
 pub three-fields-spec : {M : Type 1} → statement M
 three-fields-spec =
@@ -52,9 +65,13 @@ three-fields-spec =
     enum-told
     returns
     after-field-requires
-    add-two-fields
-    two-fields-requires
+    next-field-requires-2
     enum-known-second
-    enum-known-j
+    enum-told-2
     returns-2
-    returns-3)
+    after-field-requires-2
+    last-field-requires
+    enum-known-third
+    enum-known-j
+    returns-3
+    returns-4)

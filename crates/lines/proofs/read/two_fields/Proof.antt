@@ -1,4 +1,4 @@
--- `read::two_fields`: one number, and then the others.
+-- `read::two_fields`: one number after the other, and then the last.
 use mathlib.Core.Path.{sym, ap, _∙_}
 use Rattle.rules.specs.Lines.{andRead}
 use Rattle.lines.specs.Reading.{one, two}
@@ -18,13 +18,10 @@ enum-told c = search needs
 
 returns : tie.Need-returns
 unfolding two
-returns c = not-read _ 1 _ (sym (c .before .before .next-field .ensures) ∙ c .enum-told .given .1)
+returns c = not-read 1 1 _ (sym (c .before .before .next-field .ensures) ∙ c .enum-told .given .1)
 
 after-field-requires : tie.Need-after-field-requires
 after-field-requires c κs = search needs
-
-add-last-field : tie.Need-add-last-field
-add-last-field c = search needs
 
 last-field-requires : tie.Need-last-field-requires
 last-field-requires c κs = search needs
@@ -37,11 +34,11 @@ enum-known-j c = search needs
 
 returns-2 : tie.Need-returns-2
 unfolding two one andRead
-returns-2 c = one-more _ 1 _ (sym (c .before .before .before .before .before .before .before .before .next-field .ensures) ∙ c .before .before .before .before .before .before .first .given .1) (c .before .before .before .before .after-field .ensures) (sym (ap one (c .before .second .given .1)) ∙ c .before .before .before .last-field .ensures)
+returns-2 c = one-more 1 1 _ (sym (c .before .before .before .before .before .before .before .before .next-field .ensures) ∙ c .before .before .before .before .before .before .first .given .1) (c .before .before .before .before .after-field .ensures) (sym (ap one (c .before .second .given .1)) ∙ c .before .before .before .last-field .ensures)
 
 returns-3 : tie.Need-returns-3
 unfolding two one andRead
-returns-3 c = one-more _ 1 _ (sym (c .before .before .before .before .before .before .before .before .next-field .ensures) ∙ c .before .before .before .before .before .before .first .given .1) (c .before .before .before .before .after-field .ensures) (sym (ap one (c .before .j .given .1)) ∙ c .before .before .before .last-field .ensures)
+returns-3 c = one-more 1 1 _ (sym (c .before .before .before .before .before .before .before .before .next-field .ensures) ∙ c .before .before .before .before .before .before .first .given .1) (c .before .before .before .before .after-field .ensures) (sym (ap one (c .before .j .given .1)) ∙ c .before .before .before .last-field .ensures)
 
 pub two-fields-spec : {M : Type 1} → statement M
 two-fields-spec =
@@ -52,7 +49,6 @@ two-fields-spec =
     enum-told
     returns
     after-field-requires
-    add-last-field
     last-field-requires
     enum-known-second
     enum-known-j
