@@ -1,6 +1,6 @@
 -- The first rows of a local array `[v; N]` that are lent as a `&mut [T]` to a call; the array is freed afterwards. As `Rattle.history.proofs.Table` has it of a whole array.
---     lends-front      the array, just written whole, and one element owned  ⊢ ⇛ ∃ γ. own (the `&κ mut [T]` of w times x) ∗ (the lender's part ∗ the other rows)
---     front-back       [†κ] ∗ (the lender's part ∗ the other rows) ∗ finally γ zs  ⊢ ⇛ (the array's room, to be freed)
+--     lends_front      the array, just written whole, and one element owned  ⊢ ⇛ ∃ γ. own (the `&κ mut [T]` of w times x) ∗ (the lender's part ∗ the other rows)
+--     front_back       [†κ] ∗ (the lender's part ∗ the other rows) ∗ finally γ zs  ⊢ ⇛ (the array's room, to be freed)
 -- Assumes `Logic`.
 use mathlib.Core.Path.{◌≡◌, refl, sym, ◌∙◌, ap, subst}
 use Prim.Native.Nat.{ℕ, zero, suc, ◌+◌, ◌-◌, ◌≤◌}
@@ -53,8 +53,8 @@ module _ {M : Type 1} {𝓤 : Ura M} (𝓛 : Logic 𝓤) (R : RattleType) (N b w
   abbrev τ : Ty
   τ = lone R.mir
 
-  abbrev at-list : GName → List R.Denot → MutBor (List R.Denot)
-  at-list δ ys = record { ref_ptr = (b, 0); ghost_name = δ; now = ys }
+  abbrev at_list : GName → List R.Denot → MutBor (List R.Denot)
+  at_list δ ys = record { ref_ptr = (b, 0); ghost_name = δ; now = ys }
 
   abbrev xs : List R.Denot
   xs = replicate w x
@@ -75,31 +75,31 @@ module _ {M : Type 1} {𝓤 : Ura M} (𝓛 : Logic 𝓤) (R : RattleType) (N b w
     abbrev v : Val
     v = array_val (replicate N u)
 
-    lends-here : Single R.mir → Copy 𝓛 R → Room R (length xs) → ent 𝓤 (sep 𝓤 (H.at full_share (ty_array τ N) b 0 v) (sem 𝓛 (R.own_val x (u ∷ []))))
-        (H.⇛ (ex 𝓤 (λ (γ : GName). sep 𝓤 (sem 𝓛 ((MutSlice ℓ κ R).own_val (at-list γ xs) (slice_val (b, 0) (length xs) ∷ []))) (sem 𝓛 (fsep (flent κ (Held R (length xs) b 0 γ)) (cells (mem R) others b (past (mem R) (length xs) 0)))))))
+    lends_here : Single R.mir → Copy 𝓛 R → Room R (length xs) → ent 𝓤 (sep 𝓤 (H.at full_share (ty_array τ N) b 0 v) (sem 𝓛 (R.own_val x (u ∷ []))))
+        (H.⇛ (ex 𝓤 (λ (γ : GName). sep 𝓤 (sem 𝓛 ((MutSlice ℓ κ R).own_val (at_list γ xs) (slice_val (b, 0) (length xs) ∷ []))) (sem 𝓛 (fsep (flent κ (Held R (length xs) b 0 γ)) (cells (mem R) others b (past (mem R) (length xs) 0)))))))
     unfolding part_of
-    lends-here s Cp room =
+    lends_here s Cp room =
         qed 𝓛 (‵ (fat full_share (ty_array τ N) b 0 v) ∷ ‵ (R.own_val x (u ∷ [])) ∷ []) ∵ updating ! $ use1 𝓛 (‵ (cell_at full_share (ty_array τ N ∷ []) (v ∷ []) b 0)) (𝓛.laws.at_raw full_share (ty_array τ N) b 0 v) $
         move ! (1 ∷ []) $ use1 𝓛 (‵ ((Array R N).own_val (replicate N x) (v ∷ []))) (Array-repeat 𝓛 R Cp N x u) $ move ! (1 ∷ 0 ∷ []) $ fjoin ! $
         fpack ! (List Val) (λ vs. fsep (cell_at full_share (ty_array τ N ∷ []) vs b 0) ((Array R N).own_val (replicate N x) vs)) (v ∷ []) $
         use1 𝓛 (‵ ((arr_parts (shares R) N).part full_share (replicate N x) b 0)) (Array-apart 𝓛 R full_share s N (replicate N x) b 0) $ fsplit ! $ drop ! $
         use1 𝓛 (‵ (cells (mem R) (replicate N x) b 0)) (whole_in 𝓛 R (replicate N x) b 0) $ rewrite ! 0 (λ (ys : List R.Denot). ‵ (cells (mem R) ys b 0)) (sym whole) refl $
         use1 𝓛 (‵ (cells (mem R) xs b 0) ⊛ ‵ (cells (mem R) others b (past (mem R) (length xs) 0))) (apart 𝓛 (mem R) xs others b 0) $ split ! $
-        use1 𝓛 (later (some (λ (γ : GName). ‵ ((MutSlice ℓ κ R).own_val (at-list γ xs) (slice_val (b, 0) (length xs) ∷ [])) ⊛ ‵ (flent κ (Held R (length xs) b 0 γ))))) (lends_slice 𝓛 R ℓ κ xs b 0 room) $ await ! tt $ pick ! (λ γ. split ! $
-        at_once ! $ show ! (λ (δ : GName). sep 𝓤 (sem 𝓛 ((MutSlice ℓ κ R).own_val (at-list δ xs) (slice_val (b, 0) (length xs) ∷ []))) (sem 𝓛 (fsep (flent κ (Held R (length xs) b 0 δ)) (cells (mem R) others b (past (mem R) (length xs) 0))))) γ $ frame ! $ fjoin ! $ done !)
+        use1 𝓛 (later (some (λ (γ : GName). ‵ ((MutSlice ℓ κ R).own_val (at_list γ xs) (slice_val (b, 0) (length xs) ∷ [])) ⊛ ‵ (flent κ (Held R (length xs) b 0 γ))))) (lends_slice 𝓛 R ℓ κ xs b 0 room) $ await ! tt $ pick ! (λ γ. split ! $
+        at_once ! $ show ! (λ (δ : GName). sep 𝓤 (sem 𝓛 ((MutSlice ℓ κ R).own_val (at_list δ xs) (slice_val (b, 0) (length xs) ∷ []))) (sem 𝓛 (fsep (flent κ (Held R (length xs) b 0 δ)) (cells (mem R) others b (past (mem R) (length xs) 0))))) γ $ frame ! $ fjoin ! $ done !)
 
-    pub lends-front : Single R.mir → Copy 𝓛 R → Room R w → ent 𝓤 (sep 𝓤 (H.at full_share (ty_array τ N) b 0 v) (sem 𝓛 (R.own_val x (u ∷ []))))
-        (H.⇛ (ex 𝓤 (λ (γ : GName). sep 𝓤 (sem 𝓛 ((MutSlice ℓ κ R).own_val (at-list γ xs) (slice_val (b, 0) w ∷ []))) (sem 𝓛 (Kept κ γ)))))
-    lends-front s Cp room = subst (λ (m : ℕ). ent 𝓤 (sep 𝓤 (H.at full_share (ty_array τ N) b 0 v) (sem 𝓛 (R.own_val x (u ∷ []))))
-        (H.⇛ (ex 𝓤 (λ (γ : GName). sep 𝓤 (sem 𝓛 ((MutSlice ℓ κ R).own_val (at-list γ xs) (slice_val (b, 0) m ∷ []))) (sem 𝓛 (fsep (flent κ (Held R m b 0 γ)) (cells (mem R) others b (past (mem R) m 0)))))))) (length-replicate w x)
-        (lends-here s Cp (subst (Room R) (sym (length-replicate w x)) room))
+    pub lends_front : Single R.mir → Copy 𝓛 R → Room R w → ent 𝓤 (sep 𝓤 (H.at full_share (ty_array τ N) b 0 v) (sem 𝓛 (R.own_val x (u ∷ []))))
+        (H.⇛ (ex 𝓤 (λ (γ : GName). sep 𝓤 (sem 𝓛 ((MutSlice ℓ κ R).own_val (at_list γ xs) (slice_val (b, 0) w ∷ []))) (sem 𝓛 (Kept κ γ)))))
+    lends_front s Cp room = subst (λ (m : ℕ). ent 𝓤 (sep 𝓤 (H.at full_share (ty_array τ N) b 0 v) (sem 𝓛 (R.own_val x (u ∷ []))))
+        (H.⇛ (ex 𝓤 (λ (γ : GName). sep 𝓤 (sem 𝓛 ((MutSlice ℓ κ R).own_val (at_list γ xs) (slice_val (b, 0) m ∷ []))) (sem 𝓛 (fsep (flent κ (Held R m b 0 γ)) (cells (mem R) others b (past (mem R) m 0)))))))) (length-replicate w x)
+        (lends_here s Cp (subst (Room R) (sym (length-replicate w x)) room))
 
   all-rows : (zs : List R.Denot) → length zs ≡ w → length (zs ++ others) ≡ N
   all-rows zs l = length-append zs others ∙ rw (l, length-replicate (N - w) x) (omega arith)
 
-  pub front-back : (κ : Lft) (γ : GName) (zs : List R.Denot) → ent 𝓤 (sep 𝓤 (A.dead κ) (sep 𝓤 (sem 𝓛 (Kept κ γ)) (sem 𝓛 (finally R γ zs)))) (H.⇛ (H.room (ty_array τ N) b 0))
+  pub front_back : (κ : Lft) (γ : GName) (zs : List R.Denot) → ent 𝓤 (sep 𝓤 (A.dead κ) (sep 𝓤 (sem 𝓛 (Kept κ γ)) (sem 𝓛 (finally R γ zs)))) (H.⇛ (H.room (ty_array τ N) b 0))
   unfolding part_of
-  front-back κ γ zs =
+  front_back κ γ zs =
       qed 𝓛 (‵ (fdead κ) ∷ ‵ (Kept κ γ) ∷ ‵ (finally R γ zs) ∷ []) ∵ updating ! $ move ! (1 ∷ []) $ fsplit ! $ move ! (2 ∷ 0 ∷ 3 ∷ []) $
       use3 𝓛 (later (‵ ((Arr (mem R) w).own_at zs b 0))) (slice_back 𝓛 R κ γ zs w b 0) $ await ! tt $ fsplit ! $ feq_l ! (λ l.
       move ! (1 ∷ []) $ rewrite ! 0 (λ (k : ℕ). ‵ (cells (mem R) others b (past (mem R) k 0))) (sym l) refl $ move ! (1 ∷ 0 ∷ []) $

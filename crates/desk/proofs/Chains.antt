@@ -9,11 +9,11 @@ use lib.Dec.{leb}
 use Rattle.rules.specs.declared.answers.Refusal.{Refusal}
 use Rattle.rules.specs.declared.answers.Answer.{Answer}
 use Rattle.rules.specs.Lists.{all}
-use Rattle.rules.specs.Replies.{Reply, toldRefusal, number_of, told, refuse, smaller, smallest, plain}
+use Rattle.rules.specs.Replies.{Reply, told_refusal, number_of, told, refuse, smaller, smallest, plain}
 use borrow.Author.Tests.{leb-true}
 use Rattle.rules.proofs.Tests.{both}
-use Rattle.rules.proofs.Told.{refusal-number, Telling, telling}
-use Rattle.desk.specs.Parts.{isDone}
+use Rattle.rules.proofs.Told.{refusal_number, Telling, telling}
+use Rattle.desk.specs.Parts.{is_done}
 
 -- an entry of a chain: the refusal, and whether it applies
 abbrev pub Entry : Type 0
@@ -29,32 +29,32 @@ abbrev pub entry : Entry → ℕ × Bool
 entry e = refuse e.0 e.1
 
 -- no number after the first is smaller
-unfoldable pub notBelow : ℕ → List Entry → Bool
-notBelow n es = all (λ e. leb n (number_of e.0)) es
+unfoldable pub not_below : ℕ → List Entry → Bool
+not_below n es = all (λ e. leb n (number_of e.0)) es
 
 -- the numbers rise, and the first is above Malformed's, which alone has a value after it
 abbrev pub rising : List Entry → Bool
 rising [] = true
-rising (e ∷ es) = leb 2 (number_of e.0) && (notBelow (number_of e.0) es && rising es)
+rising (e ∷ es) = leb 2 (number_of e.0) && (not_below (number_of e.0) es && rising es)
 
 -- 0, or not below n
 Least : ℕ → ℕ → Type 0
 Least n m = m ≢ 0 → n ≤ m
 
-smaller-least : (n k m : ℕ) → n ≤ k → Least n m → Least n (smaller k m)
+smaller_least : (n k m : ℕ) → n ≤ k → Least n m → Least n (smaller k m)
 unfolding Least
-smaller-least n k zero h l z = h
-smaller-least n k (suc m) h l z = omega (arith, l (λ e. omega arith))
+smaller_least n k zero h l z = h
+smaller_least n k (suc m) h l z = omega (arith, l (λ e. omega arith))
 
-smallest-least : (n : ℕ) (es : List Entry) → notBelow n es ≡ true → Least n (smallest (map entry es))
-unfolding notBelow all smallest Least
-smallest-least n [] h z = absurd (z refl)
-smallest-least n (e ∷ es) h z = go e.1 refl (smallest-least n es (both (leb n (number_of e.0)) (notBelow n es) h).1) z
+smallest_least : (n : ℕ) (es : List Entry) → not_below n es ≡ true → Least n (smallest (map entry es))
+unfolding not_below all smallest Least
+smallest_least n [] h z = absurd (z refl)
+smallest_least n (e ∷ es) h z = go e.1 refl (smallest_least n es (both (leb n (number_of e.0)) (not_below n es) h).1) z
   where
     go : (t : Bool) → e.1 ≡ t → (smallest (map entry es) ≢ 0 → n ≤ smallest (map entry es))
         → cond t (smaller (number_of e.0) (smallest (map entry es))) (smallest (map entry es)) ≢ 0
         → n ≤ cond e.1 (smaller (number_of e.0) (smallest (map entry es))) (smallest (map entry es))
-    go true p ih z = rw p (unfold Least in smaller-least n (number_of e.0) (smallest (map entry es)) (leb-true n (number_of e.0) (both (leb n (number_of e.0)) (notBelow n es) h).0) ih z)
+    go true p ih z = rw p (unfold Least in smaller_least n (number_of e.0) (smallest (map entry es)) (leb-true n (number_of e.0) (both (leb n (number_of e.0)) (not_below n es) h).0) ih z)
     go false p ih z = rw p (ih z)
 
 -- the first that applies is the smallest
@@ -64,38 +64,38 @@ smaller-first n zero l = refl
 smaller-first n (suc m) l = omega (arith, l (λ e. omega arith))
 
 -- a refusal other than Malformed tells its number alone
-told-alone : {r : Refusal} → Telling r → 2 ≤ number_of r → toldRefusal r ≡ plain (number_of r)
-unfolding toldRefusal
-told-alone (Telling.field k) h = absurd (omega arith)
-told-alone (Telling.alone e) h = e
+told_alone : {r : Refusal} → Telling r → 2 ≤ number_of r → told_refusal r ≡ plain (number_of r)
+unfolding told_refusal
+told_alone (Telling.field k) h = absurd (omega arith)
+told_alone (Telling.alone e) h = e
 
 pub chain-told : (es : List Entry) → rising es ≡ true → told (chain es) ≡ plain (smallest (map entry es))
 unfolding told smallest
 chain-told [] h = refl
 chain-told (e ∷ es) h =
-    let (above, later) = both (leb 2 (number_of e.0)) (notBelow (number_of e.0) es && rising es) h in
-    let (least, rises) = both (notBelow (number_of e.0) es) (rising es) later in
+    let (above, later) = both (leb 2 (number_of e.0)) (not_below (number_of e.0) es && rising es) h in
+    let (least, rises) = both (not_below (number_of e.0) es) (rising es) later in
     go above least e.1 refl (chain-told es rises)
   where
-    go : leb 2 (number_of e.0) ≡ true → notBelow (number_of e.0) es ≡ true → (t : Bool) → e.1 ≡ t → told (chain es) ≡ plain (smallest (map entry es))
+    go : leb 2 (number_of e.0) ≡ true → not_below (number_of e.0) es ≡ true → (t : Bool) → e.1 ≡ t → told (chain es) ≡ plain (smallest (map entry es))
         → told (cond e.1 (Answer.Refused e.0) (chain es)) ≡ plain (cond e.1 (smaller (number_of e.0) (smallest (map entry es))) (smallest (map entry es)))
-    go above least true p ih = rw (p, smaller-first (number_of e.0) (smallest (map entry es)) (smallest-least (number_of e.0) es least)) (told-alone (telling e.0) (leb-true 2 (number_of e.0) above))
+    go above least true p ih = rw (p, smaller-first (number_of e.0) (smallest (map entry es)) (smallest_least (number_of e.0) es least)) (told_alone (telling e.0) (leb-true 2 (number_of e.0) above))
     go above least false p ih = rw p ih
 
 -- what is done was not refused, and what was refused was not done
-pub done-number : (a : Answer) (n : ℕ) → told a ≡ plain n → isDone a ≡ true → n ≡ 0
+pub done-number : (a : Answer) (n : ℕ) → told a ≡ plain n → is_done a ≡ true → n ≡ 0
 unfolding told
 done-number Answer.Done n e d = sym (ap (λ (r : Reply). r.number) e)
 done-number (Answer.Sent p) n e d = sym (ap (λ (r : Reply). r.number) e)
 done-number (Answer.Traced k) n e d = sym (ap (λ (r : Reply). r.number) e)
 done-number (Answer.Refused r) n e d = absurd (mathlib.Core.Bool.false≢true d)
 
-pub refused-number : (a : Answer) (n : ℕ) → told a ≡ plain n → isDone a ≡ false → n ≢ 0
+pub refused-number : (a : Answer) (n : ℕ) → told a ≡ plain n → is_done a ≡ false → n ≢ 0
 unfolding told
 refused-number Answer.Done n e d = absurd (mathlib.Core.Bool.true≢false d)
 refused-number (Answer.Sent p) n e d = absurd (mathlib.Core.Bool.true≢false d)
 refused-number (Answer.Traced k) n e d = absurd (mathlib.Core.Bool.true≢false d)
-refused-number (Answer.Refused r) n e d = λ z. omega (arith, refusal-number r, ap (λ (r : Reply). r.number) e)
+refused-number (Answer.Refused r) n e d = λ z. omega (arith, refusal_number r, ap (λ (r : Reply). r.number) e)
 
 -- out of frame comes first: what the other tests say of such a book is no matter
 pub chain-frame : (f : Bool) (es gs : List Entry) → (f ≡ true → es ≡ gs) → chain ((Refusal.BadBook, not f) ∷ es) ≡ chain ((Refusal.BadBook, not f) ∷ gs)

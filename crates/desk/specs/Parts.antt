@@ -4,12 +4,12 @@ use Rattle.rules.specs.declared.answers.Answer.{Answer}
 use Rattle.rules.specs.Limits.{within}
 
 -- of eight numbers the one for asset or domain i; outside 1 to 8 there is none, so 0
-abbrev pub ofEight : List ℕ → ℕ → ℕ
-ofEight xs i = cond (within 1 8 i) (get_or xs (i - 1) 0) 0
+abbrev pub of_eight : List ℕ → ℕ → ℕ
+of_eight xs i = cond (within 1 8 i) (get_or xs (i - 1) 0) 0
 
 -- nothing was refused
-abbrev pub isDone : Answer → Bool
-isDone Answer.Done = true
-isDone (Answer.Sent p) = true
-isDone (Answer.Traced n) = true
-isDone (Answer.Refused r) = false
+abbrev pub is_done : Answer → Bool
+is_done Answer.Done = true
+is_done (Answer.Sent p) = true
+is_done (Answer.Traced n) = true
+is_done (Answer.Refused r) = false

@@ -1,6 +1,6 @@
 // The chain of refusals: tested from the last number to the first, the smallest number stands.
 ghost use Rattle.std.specs.Prelude.{◌≡◌, cond};
-ghost use Rattle.desk.specs.Parts.{isDone};
+ghost use Rattle.desk.specs.Parts.{is_done};
 
 use rules::answers::{Answer, Refusal};
 
@@ -13,7 +13,7 @@ pub fn refuse(applies: bool, why: Refusal, rest: Answer) -> Answer
 
 // Whether nothing was refused.
 pub fn is_done(a: Answer) -> bool
-    ensures { result ≡ isDone a }
+    ensures { result ≡ is_done a }
 {
     match a {
         Answer::Done => true,

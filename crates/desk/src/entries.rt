@@ -1,12 +1,12 @@
 // The history record that each call writes: "Claim, transfer, withdraw and grant each append one history record."
 ghost use Rattle.std.specs.Prelude.{◌≡◌};
-ghost use Rattle.rules.specs.Effects.{claimRecord, transferRecord, withdrawalRecord, grantRecord};
+ghost use Rattle.rules.specs.Effects.{claim_record, transfer_record, withdrawal_record, grant_record};
 
 use rules::calls::{ClaimFields, GrantFields, TransferFields, WithdrawalFields};
 use rules::rows::Record;
 
 pub fn claim_record(c: ClaimFields) -> Record
-    ensures { result ≡ claimRecord c }
+    ensures { result ≡ claim_record c }
 {
     let number = c.number;
     Record {
@@ -19,7 +19,7 @@ pub fn claim_record(c: ClaimFields) -> Record
 }
 
 pub fn transfer_record(t: TransferFields) -> Record
-    ensures { result ≡ transferRecord t }
+    ensures { result ≡ transfer_record t }
 {
     Record {
         kind: 2,
@@ -31,7 +31,7 @@ pub fn transfer_record(t: TransferFields) -> Record
 }
 
 pub fn withdrawal_record(w: WithdrawalFields) -> Record
-    ensures { result ≡ withdrawalRecord w }
+    ensures { result ≡ withdrawal_record w }
 {
     Record {
         kind: 3,
@@ -43,7 +43,7 @@ pub fn withdrawal_record(w: WithdrawalFields) -> Record
 }
 
 pub fn grant_record(g: GrantFields) -> Record
-    ensures { result ≡ grantRecord g }
+    ensures { result ≡ grant_record g }
 {
     Record {
         kind: 4,

@@ -1,8 +1,8 @@
 // The tests on fields, and what a desk keeps under a field's number.
 ghost use Rattle.std.specs.Prelude.{◌≡◌};
-ghost use Rattle.rules.specs.Limits.{within, isMember, isAsset, isDomain, isAmount, isPayee};
+ghost use Rattle.rules.specs.Limits.{within, is_member, is_asset, is_domain, is_amount, is_payee};
 ghost use Rattle.rules.specs.Effects.{balance};
-ghost use Rattle.desk.specs.Parts.{ofEight};
+ghost use Rattle.desk.specs.Parts.{of_eight};
 
 use rules::limits::{ASSETS, CEILING, DOMAINS, HIGHEST_PAYEE, MEMBERS};
 
@@ -13,31 +13,31 @@ pub fn is_within(lo: u64, hi: u64, x: u64) -> bool
 }
 
 pub fn is_member(m: u64) -> bool
-    ensures { result ≡ isMember m }
+    ensures { result ≡ is_member m }
 {
     is_within(1, MEMBERS, m)
 }
 
 pub fn is_asset(a: u64) -> bool
-    ensures { result ≡ isAsset a }
+    ensures { result ≡ is_asset a }
 {
     is_within(1, ASSETS, a)
 }
 
 pub fn is_domain(d: u64) -> bool
-    ensures { result ≡ isDomain d }
+    ensures { result ≡ is_domain d }
 {
     is_within(1, DOMAINS, d)
 }
 
 pub fn is_amount(x: u64) -> bool
-    ensures { result ≡ isAmount x }
+    ensures { result ≡ is_amount x }
 {
     is_within(1, CEILING, x)
 }
 
 pub fn is_payee(p: u64) -> bool
-    ensures { result ≡ isPayee p }
+    ensures { result ≡ is_payee p }
 {
     is_within(1, HIGHEST_PAYEE, p)
 }
@@ -56,7 +56,7 @@ pub fn balance_of(balances: &[u64; 128], m: u64, a: u64) -> u64
 
 // Of eight numbers, one for each asset or each domain, the one for number i.
 pub fn of_eight(xs: &[u64; 8], i: u64) -> u64
-    ensures { result ≡ ofEight xs.now i }
+    ensures { result ≡ of_eight xs.now i }
 {
     if is_within(1, 8, i) {
         let at = (i - 1) as usize;

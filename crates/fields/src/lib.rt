@@ -1,7 +1,7 @@
 // The field reader. Fields are parted by one tab; each is a number, or it is told by its own number that it is none.
 ghost use Rattle.std.specs.Prelude.{◌≡◌, drop};
-ghost use Rattle.rules.specs.Lines.{fieldEnd, afterField, leadingZero};
-ghost use Rattle.fields.specs.Reading.{oneMore, isShaped, digitsRead, nextRead};
+ghost use Rattle.rules.specs.Lines.{field_end, after_field, leading_zero};
+ghost use Rattle.fields.specs.Reading.{one_more, is_shaped, digits_read, next_read};
 
 // What the field reader answers: the field's number and where the part after the field begins, or which field it
 // is that does not read.
@@ -20,7 +20,7 @@ enum Grown {
 
 // Where the first field ends: at the first tab, or at the end of the line.
 pub fn field_end(s: &[u8]) -> usize
-    ensures { result ≡ fieldEnd s.now }
+    ensures { result ≡ field_end s.now }
 {
     let mut i: usize = 0;
     while i < s.len() {
@@ -37,7 +37,7 @@ pub fn field_end(s: &[u8]) -> usize
 // tab, or the line ends too, and one look is all. The part begins with the next field's tab, and is empty
 // where the line ends.
 pub fn after_field(s: &[u8], at: usize) -> &[u8]
-    ensures { result.now ≡ afterField (drop at s.now) }
+    ensures { result.now ≡ after_field (drop at s.now) }
 {
     if s.len() <= at {
         return &s[s.len()..];
@@ -54,7 +54,7 @@ pub fn after_field(s: &[u8], at: usize) -> &[u8]
 // passed over, to the field's end. It is field k of the line: "The field reader is to give the field where
 // reading failed."
 pub fn next_field(s: &[u8], k: u64) -> ReadField
-    ensures { result ≡ nextRead k s.now }
+    ensures { result ≡ next_read k s.now }
 {
     if s.len() == 0 {
         return ReadField::FailsAt(k);
@@ -71,7 +71,7 @@ pub fn next_field(s: &[u8], k: u64) -> ReadField
 // The value of the digits after a tab, up to the next tab or the end of the line; another byte among them,
 // or a value that no field can hold, and there is none.
 fn digits(s: &[u8], k: u64) -> ReadField
-    ensures { result ≡ digitsRead k s.now }
+    ensures { result ≡ digits_read k s.now }
 {
     let mut v: u64 = 0;
     let mut i: usize = 1;
@@ -91,7 +91,7 @@ fn digits(s: &[u8], k: u64) -> ReadField
 // One digit more, tested before the value is made, so that nothing wraps: a tenth of
 // 18,446,744,073,709,551,615 may be followed by digits up to 5, what is below it by any.
 fn one_more(v: u64, b: u8) -> Grown
-    ensures { result ≡ oneMore v b }
+    ensures { result ≡ one_more v b }
 {
     if b < 48 {
         return Grown::NoNumber;
@@ -115,14 +115,14 @@ fn one_more(v: u64, b: u8) -> Grown
 // "1 to 20 decimal digits, no sign, no leading zero except `0` itself", of a field that has nothing but
 // digits.
 fn is_shaped(f: &[u8]) -> bool
-    ensures { result ≡ isShaped f.now }
+    ensures { result ≡ is_shaped f.now }
 {
     (1 <= f.len()) & (f.len() <= 20) & !is_led(f)
 }
 
 // A leading zero: a first digit 0 with another after it.
 fn is_led(f: &[u8]) -> bool
-    ensures { result ≡ leadingZero f.now }
+    ensures { result ≡ leading_zero f.now }
 {
     if f.len() < 2 {
         return false;

@@ -8,125 +8,125 @@ use lib.ListN.{length, get_or, take-append-drop}
 use borrow.Author.Tests.{eq-eqb, ne_eqb, le-leb, lt-leb}
 use Rattle.rules.specs.declared.rows.Deposit.{Deposit}
 use Rattle.rules.specs.declared.rows.Payment.{Payment}
-use Rattle.rules.specs.Limits.{inboxRows, outboxRows, isMember, isAsset, isAmount, isPayee}
+use Rattle.rules.specs.Limits.{inbox_rows, outbox_rows, is_member, is_asset, is_amount, is_payee}
 use Rattle.rules.specs.Lists.{all, ands}
-use Rattle.rules.specs.Tables.{rows_of, depositShape, paymentShape}
-use Rattle.rules.specs.State.{Book, view, outboxOf}
-use Rattle.rules.specs.Frame.{depositInLimits, paymentInLimits, numbersRise, noncesFrom, noncesRise, inFrame}
+use Rattle.rules.specs.Tables.{rows_of, deposit_shape, payment_shape}
+use Rattle.rules.specs.State.{Book, view, outbox_of}
+use Rattle.rules.specs.Frame.{deposit_in_limits, payment_in_limits, numbers_rise, nonces_from, nonces_rise, in_frame}
 use Rattle.rules.proofs.Laying.{length-rows}
 use Rattle.tables.specs.Rows.{row_at}
-use Rattle.tables.proofs.Rest.{passes, rest, rest_all, passes-fails, passes-goes, passes-end, cell, cell0}
-use Rattle.frames.specs.Parts.{inboxFrame, outboxFrame, listsFrame, countsFrame}
-use Rattle.frames.proofs.Laws.{two-by-two, and-left-comm}
+use Rattle.tables.proofs.Rest.{passes, rest, rest_all, passes_fails, passes_goes, passes_end, cell, cell0}
+use Rattle.frames.specs.Parts.{inbox_frame, outbox_frame, lists_frame, counts_frame}
+use Rattle.frames.proofs.Laws.{two_by_two, and-left_comm}
 
 -- ---- the inbox
 -- a deposit against the number before it
-abbrev pub depositTest : ℕ → ℕ → Deposit → Bool
-depositTest last before d = depositInLimits d && (ltb before d.number.0 && leb d.number.0 last)
+abbrev pub deposit_test : ℕ → ℕ → Deposit → Bool
+deposit_test last before d = deposit_in_limits d && (ltb before d.number.0 && leb d.number.0 last)
 
-abbrev pub depositNext : ℕ → Deposit → ℕ
-depositNext before d = d.number.0
+abbrev pub deposit_next : ℕ → Deposit → ℕ
+deposit_next before d = d.number.0
 
-deposits-pass : (last before : ℕ) (ds : List Deposit) → all depositInLimits ds && numbersRise before last ds ≡ passes (depositTest last) depositNext before ds
-unfolding all numbersRise passes
-deposits-pass last before [] = refl
-deposits-pass last before (d ∷ ds) =
-    rw (sym (and_assoc (ltb before d.number.0) (leb d.number.0 last) (numbersRise d.number.0 last ds)))
-    (two-by-two (depositInLimits d) (all depositInLimits ds) (ltb before d.number.0 && leb d.number.0 last) (numbersRise d.number.0 last ds)
-    ∙ ap (λ (b : Bool). depositTest last before d && b) (deposits-pass last d.number.0 ds))
+deposits_pass : (last before : ℕ) (ds : List Deposit) → all deposit_in_limits ds && numbers_rise before last ds ≡ passes (deposit_test last) deposit_next before ds
+unfolding all numbers_rise passes
+deposits_pass last before [] = refl
+deposits_pass last before (d ∷ ds) =
+    rw (sym (and_assoc (ltb before d.number.0) (leb d.number.0 last) (numbers_rise d.number.0 last ds)))
+    (two_by_two (deposit_in_limits d) (all deposit_in_limits ds) (ltb before d.number.0 && leb d.number.0 last) (numbers_rise d.number.0 last ds)
+    ∙ ap (λ (b : Bool). deposit_test last before d && b) (deposits_pass last d.number.0 ds))
 
 module _ (t : List ℕ) (n last : ℕ) where
   -- what is left to test of the inbox after i rows
   abbrev pub InboxFrom : ℕ → ℕ → Type 0
-  InboxFrom before i = inboxFrame t n last ≡ passes (depositTest last) depositNext before (rest depositShape n i t)
+  InboxFrom before i = inbox_frame t n last ≡ passes (deposit_test last) deposit_next before (rest deposit_shape n i t)
 
-  pub inbox-size : (length t ≡ inboxRows * depositShape.width → ⊥) → false ≡ inboxFrame t n last
-  unfolding inboxFrame
+  pub inbox-size : (length t ≡ inbox_rows * deposit_shape.width → ⊥) → false ≡ inbox_frame t n last
+  unfolding inbox_frame
   inbox-size h = rw (ne_eqb _ _ h)
 
-  pub inbox-count : inboxRows < n → length t ≡ inboxRows * depositShape.width → false ≡ inboxFrame t n last
-  unfolding inboxFrame
+  pub inbox-count : inbox_rows < n → length t ≡ inbox_rows * deposit_shape.width → false ≡ inbox_frame t n last
+  unfolding inbox_frame
   inbox-count h e = rw (eq-eqb _ _ e, lt-leb _ _ h)
 
-  pub inbox-none : length t ≡ inboxRows * depositShape.width → n ≤ inboxRows → InboxFrom 0 0
-  unfolding inboxFrame
-  inbox-none e h = rw (eq-eqb _ _ e, le-leb _ _ h, rest_all depositShape n t) (deposits-pass last 0 (rows_of depositShape n t))
+  pub inbox-none : length t ≡ inbox_rows * deposit_shape.width → n ≤ inbox_rows → InboxFrom 0 0
+  unfolding inbox_frame
+  inbox-none e h = rw (eq-eqb _ _ e, le-leb _ _ h, rest_all deposit_shape n t) (deposits_pass last 0 (rows_of deposit_shape n t))
 
   -- the test of row i, on the table's numbers
   pub inbox-row : (before i : ℕ)
-      → depositTest last before (row_at depositShape i t)
-      ≡ (isMember (get_or t (i * depositShape.width + 3) 0) && (isAsset (get_or t (i * depositShape.width + 1) 0) && isAmount (get_or t (i * depositShape.width + 2) 0))) && (ltb before (get_or t (i * depositShape.width) 0) && leb (get_or t (i * depositShape.width) 0) last)
-  inbox-row before i = rw (cell0 depositShape.width i t (lit< tt), cell depositShape.width i 1 t (lit< tt), cell depositShape.width i 2 t (lit< tt), cell depositShape.width i 3 t (lit< tt))
+      → deposit_test last before (row_at deposit_shape i t)
+      ≡ (is_member (get_or t (i * deposit_shape.width + 3) 0) && (is_asset (get_or t (i * deposit_shape.width + 1) 0) && is_amount (get_or t (i * deposit_shape.width + 2) 0))) && (ltb before (get_or t (i * deposit_shape.width) 0) && leb (get_or t (i * deposit_shape.width) 0) last)
+  inbox-row before i = rw (cell0 deposit_shape.width i t (lit< tt), cell deposit_shape.width i 1 t (lit< tt), cell deposit_shape.width i 2 t (lit< tt), cell deposit_shape.width i 3 t (lit< tt))
 
-  pub inbox-fails : (before i : ℕ) → i < n → InboxFrom before i → depositTest last before (row_at depositShape i t) ≡ false → false ≡ inboxFrame t n last
-  inbox-fails before i h f e = sym (f ∙ passes-fails depositShape (depositTest last) depositNext n before i t h e)
+  pub inbox_fails : (before i : ℕ) → i < n → InboxFrom before i → deposit_test last before (row_at deposit_shape i t) ≡ false → false ≡ inbox_frame t n last
+  inbox_fails before i h f e = sym (f ∙ passes_fails deposit_shape (deposit_test last) deposit_next n before i t h e)
 
-  pub inbox-goes : (before i : ℕ) → i < n → InboxFrom before i → depositTest last before (row_at depositShape i t) ≡ true → InboxFrom (get_or t (i * depositShape.width) 0) (i + 1)
-  inbox-goes before i h f e =
-      f ∙ passes-goes depositShape (depositTest last) depositNext n before i t h e
-      ∙ ap (λ (k : ℕ). passes (depositTest last) depositNext k (rest depositShape n (i + 1) t)) (cell0 depositShape.width i t (lit< tt))
+  pub inbox_goes : (before i : ℕ) → i < n → InboxFrom before i → deposit_test last before (row_at deposit_shape i t) ≡ true → InboxFrom (get_or t (i * deposit_shape.width) 0) (i + 1)
+  inbox_goes before i h f e =
+      f ∙ passes_goes deposit_shape (deposit_test last) deposit_next n before i t h e
+      ∙ ap (λ (k : ℕ). passes (deposit_test last) deposit_next k (rest deposit_shape n (i + 1) t)) (cell0 deposit_shape.width i t (lit< tt))
 
-  pub inbox-end : (before i : ℕ) → n ≤ i → InboxFrom before i → true ≡ inboxFrame t n last
-  inbox-end before i h f = sym (f ∙ passes-end depositShape (depositTest last) depositNext n before i t h)
+  pub inbox_end : (before i : ℕ) → n ≤ i → InboxFrom before i → true ≡ inbox_frame t n last
+  inbox_end before i h f = sym (f ∙ passes_end deposit_shape (deposit_test last) deposit_next n before i t h)
 
 -- ---- the outbox
-abbrev pub paymentTest : ℕ → Payment → Bool
-paymentTest due p = paymentInLimits p && eqb p.nonce.0 due
+abbrev pub payment_test : ℕ → Payment → Bool
+payment_test due p = payment_in_limits p && eqb p.nonce.0 due
 
-abbrev pub paymentNext : ℕ → Payment → ℕ
-paymentNext due p = due + 1
+abbrev pub payment_next : ℕ → Payment → ℕ
+payment_next due p = due + 1
 
-payments-pass : (due : ℕ) (ps : List Payment) → all paymentInLimits ps && noncesFrom due ps ≡ passes paymentTest paymentNext due ps
-unfolding all noncesFrom passes
-payments-pass due [] = refl
-payments-pass due (p ∷ ps) =
-    two-by-two (paymentInLimits p) (all paymentInLimits ps) (eqb p.nonce.0 due) (noncesFrom (due + 1) ps)
-    ∙ ap (λ (b : Bool). paymentTest due p && b) (payments-pass (due + 1) ps)
+payments_pass : (due : ℕ) (ps : List Payment) → all payment_in_limits ps && nonces_from due ps ≡ passes payment_test payment_next due ps
+unfolding all nonces_from passes
+payments_pass due [] = refl
+payments_pass due (p ∷ ps) =
+    two_by_two (payment_in_limits p) (all payment_in_limits ps) (eqb p.nonce.0 due) (nonces_from (due + 1) ps)
+    ∙ ap (λ (b : Bool). payment_test due p && b) (payments_pass (due + 1) ps)
 
 module _ (t : List ℕ) (n next : ℕ) where
   abbrev pub OutboxFrom : ℕ → ℕ → Type 0
-  OutboxFrom due i = outboxFrame t n next ≡ passes paymentTest paymentNext due (rest paymentShape n i t)
+  OutboxFrom due i = outbox_frame t n next ≡ passes payment_test payment_next due (rest payment_shape n i t)
 
-  pub outbox-size : (length t ≡ outboxRows * paymentShape.width → ⊥) → false ≡ outboxFrame t n next
-  unfolding outboxFrame
+  pub outbox-size : (length t ≡ outbox_rows * payment_shape.width → ⊥) → false ≡ outbox_frame t n next
+  unfolding outbox_frame
   outbox-size h = rw (ne_eqb _ _ h)
 
-  pub outbox-count : outboxRows < n → length t ≡ outboxRows * paymentShape.width → false ≡ outboxFrame t n next
-  unfolding outboxFrame
+  pub outbox-count : outbox_rows < n → length t ≡ outbox_rows * payment_shape.width → false ≡ outbox_frame t n next
+  unfolding outbox_frame
   outbox-count h e = rw (eq-eqb _ _ e, lt-leb _ _ h)
 
-  pub outbox-before : next < n → length t ≡ outboxRows * paymentShape.width → n ≤ outboxRows → false ≡ outboxFrame t n next
-  unfolding outboxFrame noncesRise
-  outbox-before h e f = rw (eq-eqb _ _ e, le-leb _ _ f, length-rows paymentShape n t, lt-leb _ _ h, and-false)
+  pub outbox-before : next < n → length t ≡ outbox_rows * payment_shape.width → n ≤ outbox_rows → false ≡ outbox_frame t n next
+  unfolding outbox_frame nonces_rise
+  outbox-before h e f = rw (eq-eqb _ _ e, le-leb _ _ f, length-rows payment_shape n t, lt-leb _ _ h, and-false)
 
-  pub outbox-none : length t ≡ outboxRows * paymentShape.width → n ≤ outboxRows → n ≤ next → OutboxFrom (next - n) 0
-  unfolding outboxFrame noncesRise
+  pub outbox-none : length t ≡ outbox_rows * payment_shape.width → n ≤ outbox_rows → n ≤ next → OutboxFrom (next - n) 0
+  unfolding outbox_frame nonces_rise
   outbox-none e h f =
-      rw (eq-eqb _ _ e, le-leb _ _ h, length-rows paymentShape n t, le-leb _ _ f, rest_all paymentShape n t) (payments-pass (next - n) (rows_of paymentShape n t))
+      rw (eq-eqb _ _ e, le-leb _ _ h, length-rows payment_shape n t, le-leb _ _ f, rest_all payment_shape n t) (payments_pass (next - n) (rows_of payment_shape n t))
 
   pub outbox-row : (due i : ℕ)
-      → paymentTest due (row_at paymentShape i t)
-      ≡ (isAsset (get_or t (i * paymentShape.width) 0) && (isAmount (get_or t (i * paymentShape.width + 1) 0) && isPayee (get_or t (i * paymentShape.width + 2) 0))) && eqb (get_or t (i * paymentShape.width + 3) 0) due
-  outbox-row due i = rw (cell0 paymentShape.width i t (lit< tt), cell paymentShape.width i 1 t (lit< tt), cell paymentShape.width i 2 t (lit< tt), cell paymentShape.width i 3 t (lit< tt))
+      → payment_test due (row_at payment_shape i t)
+      ≡ (is_asset (get_or t (i * payment_shape.width) 0) && (is_amount (get_or t (i * payment_shape.width + 1) 0) && is_payee (get_or t (i * payment_shape.width + 2) 0))) && eqb (get_or t (i * payment_shape.width + 3) 0) due
+  outbox-row due i = rw (cell0 payment_shape.width i t (lit< tt), cell payment_shape.width i 1 t (lit< tt), cell payment_shape.width i 2 t (lit< tt), cell payment_shape.width i 3 t (lit< tt))
 
-  pub outbox-fails : (due i : ℕ) → i < n → OutboxFrom due i → paymentTest due (row_at paymentShape i t) ≡ false → false ≡ outboxFrame t n next
-  outbox-fails due i h f e = sym (f ∙ passes-fails paymentShape paymentTest paymentNext n due i t h e)
+  pub outbox_fails : (due i : ℕ) → i < n → OutboxFrom due i → payment_test due (row_at payment_shape i t) ≡ false → false ≡ outbox_frame t n next
+  outbox_fails due i h f e = sym (f ∙ passes_fails payment_shape payment_test payment_next n due i t h e)
 
-  pub outbox-goes : (due i : ℕ) → i < n → OutboxFrom due i → paymentTest due (row_at paymentShape i t) ≡ true → OutboxFrom (due + 1) (i + 1)
-  outbox-goes due i h f e = f ∙ passes-goes paymentShape paymentTest paymentNext n due i t h e
+  pub outbox_goes : (due i : ℕ) → i < n → OutboxFrom due i → payment_test due (row_at payment_shape i t) ≡ true → OutboxFrom (due + 1) (i + 1)
+  outbox_goes due i h f e = f ∙ passes_goes payment_shape payment_test payment_next n due i t h e
 
-  pub outbox-end : (due i : ℕ) → n ≤ i → OutboxFrom due i → true ≡ outboxFrame t n next
-  outbox-end due i h f = sym (f ∙ passes-end paymentShape paymentTest paymentNext n due i t h)
+  pub outbox_end : (due i : ℕ) → n ≤ i → OutboxFrom due i → true ≡ outbox_frame t n next
+  outbox_end due i h f = sym (f ∙ passes_end payment_shape payment_test payment_next n due i t h)
 
 -- ---- the parts together
 regroup : (c1 c2 c3 c4 c5 c6 c7 c8 c9 c10 c11 c12 c13 c14 c15 c16 c17 : Bool)
     → ands (c1 ∷ c2 ∷ c3 ∷ c4 ∷ c5 ∷ c6 ∷ c7 ∷ c8 ∷ c9 ∷ c10 ∷ c11 ∷ c12 ∷ c13 ∷ c14 ∷ c15 ∷ c16 ∷ c17 ∷ [])
     ≡ (c3 && (c6 && (c7 && (c15 && c16)))) && ((c8 && (c9 && (c10 && c17))) && ((c1 && (c4 && (c11 && c13))) && (c2 && (c5 && (c12 && c14)))))
 unfolding ands
-regroup c1 c2 c3 c4 c5 c6 c7 c8 c9 c10 c11 c12 c13 c14 c15 c16 c17 = simp (and-true, and_assoc, and_comm, and-left-comm)
+regroup c1 c2 c3 c4 c5 c6 c7 c8 c9 c10 c11 c12 c13 c14 c15 c16 c17 = simp (and-true, and_assoc, and_comm, and-left_comm)
 
-pub frame-parts : (b : Book)
-    → inFrame b
-    ≡ countsFrame b.desk.counts (length b.history) && (listsFrame b.desk.balances b.desk.holders b.desk.lifetime b.desk.settled && (inboxFrame b.inbox b.desk.counts.unclaimed b.desk.counts.last.0 && outboxFrame b.outbox b.desk.counts.payments b.desk.counts.next.0))
-unfolding inFrame view countsFrame listsFrame inboxFrame outboxFrame
-frame-parts b = rw (take-append-drop b.desk.counts.inflight (outboxOf b)) (regroup _ _ _ _ _ _ _ _ _ _ _ _ _ _ _ _ _)
+pub frame_parts : (b : Book)
+    → in_frame b
+    ≡ counts_frame b.desk.counts (length b.history) && (lists_frame b.desk.balances b.desk.holders b.desk.lifetime b.desk.settled && (inbox_frame b.inbox b.desk.counts.unclaimed b.desk.counts.last.0 && outbox_frame b.outbox b.desk.counts.payments b.desk.counts.next.0))
+unfolding in_frame view counts_frame lists_frame inbox_frame outbox_frame
+frame_parts b = rw (take-append-drop b.desk.counts.inflight (outbox_of b)) (regroup _ _ _ _ _ _ _ _ _ _ _ _ _ _ _ _ _)

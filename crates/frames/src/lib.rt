@@ -1,11 +1,11 @@
 // The frame test, every clause of document 01 but the history's, on any desk and any three tables.
 ghost use Rattle.std.specs.Prelude.{◌≡◌, ◌&&◌, leb, ltb, eqb};
-ghost use Rattle.rules.specs.Limits.{within, isMember, isAsset, isAmount, isPayee};
+ghost use Rattle.rules.specs.Limits.{within, is_member, is_asset, is_amount, is_payee};
 ghost use Rattle.rules.specs.Lists.{all};
-ghost use Rattle.rules.specs.Frame.{inFrame};
-ghost use Rattle.rules.specs.Answer.{bookOf};
-ghost use Rattle.desk.specs.Kept.{deskWith};
-ghost use Rattle.frames.specs.Parts.{inboxFrame, outboxFrame, listsFrame, countsFrame};
+ghost use Rattle.rules.specs.Frame.{in_frame};
+ghost use Rattle.rules.specs.Answer.{book_of};
+ghost use Rattle.desk.specs.Kept.{desk_with};
+ghost use Rattle.frames.specs.Parts.{inbox_frame, outbox_frame, lists_frame, counts_frame};
 
 use desk::fields::is_within;
 use rules::desk::{Counts, Desk};
@@ -26,7 +26,7 @@ pub fn in_frame<'a>(
     outbox: &[u64],
     history: &[u64],
 ) -> bool
-    ensures { result ≡ inFrame (bookOf (deskWith balances.now holders.now lifetime.now settled.now counts) inbox.now outbox.now history.now) }
+    ensures { result ≡ in_frame (book_of (desk_with balances.now holders.now lifetime.now settled.now counts) inbox.now outbox.now history.now) }
 {
     let last = counts.last;
     let next = counts.next;
@@ -38,7 +38,7 @@ pub fn in_frame<'a>(
 
 // The same of a desk by value, for a call of the library: it tests for itself.
 pub fn framed(d: Desk, inbox: &[u64], outbox: &[u64], history: &[u64]) -> bool
-    ensures { result ≡ inFrame (bookOf d inbox.now outbox.now history.now) }
+    ensures { result ≡ in_frame (book_of d inbox.now outbox.now history.now) }
 {
     let counts = d.counts;
     in_frame(
@@ -55,7 +55,7 @@ pub fn framed(d: Desk, inbox: &[u64], outbox: &[u64], history: &[u64]) -> bool
 
 // The counts and the counters of the desk, and the size of the history's table.
 fn counts_in_frame(c: Counts, size: usize) -> bool
-    ensures { result ≡ countsFrame c size }
+    ensures { result ≡ counts_frame c size }
 {
     let last = c.last;
     let next = c.next;
@@ -72,7 +72,7 @@ fn lists_in_frame(
     lifetime: &[u64; 8],
     settled: &[u64; 8],
 ) -> bool
-    ensures { result ≡ listsFrame balances.now holders.now lifetime.now settled.now }
+    ensures { result ≡ lists_frame balances.now holders.now lifetime.now settled.now }
 {
     balances_in_frame(balances)
         & (all_within(lifetime, 0, CEILING)
@@ -111,7 +111,7 @@ fn all_within(s: &[u64], lo: u64, hi: u64) -> bool
 
 // The inbox: its size, its count, and each used row against the one before it.
 fn inbox_in_frame(t: &[u64], n: usize, last: u64) -> bool
-    ensures { result ≡ inboxFrame t.now n last }
+    ensures { result ≡ inbox_frame t.now n last }
 {
     if t.len() != INBOX_SIZE {
         return false;
@@ -142,7 +142,7 @@ fn deposit_in_frame(
     amount: u64,
     member: u64,
 ) -> bool
-    ensures { result ≡ (isMember member && (isAsset asset && isAmount amount)) && (ltb before number && leb number last) }
+    ensures { result ≡ (is_member member && (is_asset asset && is_amount amount)) && (ltb before number && leb number last) }
 {
     if !is_within(1, MEMBERS, member) {
         return false;
@@ -161,7 +161,7 @@ fn deposit_in_frame(
 
 // The outbox: its size, its count, and each used row with the nonce that is due.
 fn outbox_in_frame(t: &[u64], n: usize, next: u64) -> bool
-    ensures { result ≡ outboxFrame t.now n next }
+    ensures { result ≡ outbox_frame t.now n next }
 {
     if t.len() != OUTBOX_SIZE {
         return false;
@@ -187,7 +187,7 @@ fn outbox_in_frame(t: &[u64], n: usize, next: u64) -> bool
 }
 
 fn payment_in_frame(due: u64, asset: u64, amount: u64, payee: u64, nonce: u64) -> bool
-    ensures { result ≡ (isAsset asset && (isAmount amount && isPayee payee)) && eqb nonce due }
+    ensures { result ≡ (is_asset asset && (is_amount amount && is_payee payee)) && eqb nonce due }
 {
     if !is_within(1, ASSETS, asset) {
         return false;

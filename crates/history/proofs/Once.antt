@@ -1,28 +1,28 @@
 -- Any two results that a public function's contract allows coincide (`Coincide` of `rules`), refusals too.
 use mathlib.Core.Path.{◌≡◌, refl, sym, ap, ◌∙◌}
 use mathlib.Core.List.{List, []}
-use Rattle.rules.specs.Tables.{rows_of, recordShape}
+use Rattle.rules.specs.Tables.{rows_of, record_shape}
 use Rattle.rules.specs.State.{State}
 use Rattle.rules.specs.declared.rows.Lot.{Lot}
 use Rattle.rules.specs.declared.answers.Answer.{Answer}
 use Rattle.rules.specs.Coincide.{Coincide}
 use Rattle.rules.specs.Answer.{TraceOutcome}
-use Rattle.rules.proofs.Told.{told-once}
-use Rattle.rules.proofs.Coincide.{both, noOutside}
-use Rattle.history.specs.Tracing.{traceOutcomeOf}
+use Rattle.rules.proofs.Told.{told_once}
+use Rattle.rules.proofs.Coincide.{both, no_outside}
+use Rattle.history.specs.Tracing.{trace_outcome_of}
 use Rattle.history.specs.contracts.refusals.history_reply as history-reply
 use Rattle.history.specs.contracts.trace.trace as trace
 
 -- the table of refusals is said of every state that has these records
-pub history-reply-once : Coincide history-reply.ended (λ M 𝓤. history-reply.clauses 𝓤)
-history-reply-once w x g =
-    let s : State = record { balances = []; holders = []; inbox = []; outside = noOutside; history = rows_of recordShape x.args.1.0 x.args.0.now } in
-    both w (λ p q. (told-once _ _ (p s refl ∙ sym (q s refl)), refl))
+pub history_reply_once : Coincide history-reply.ended (λ M 𝓤. history-reply.clauses 𝓤)
+history_reply_once w x g =
+    let s : State = record { balances = []; holders = []; inbox = []; outside = no_outside; history = rows_of record_shape x.args.1.0 x.args.0.now } in
+    both w (λ p q. (told_once _ _ (p s refl ∙ sym (q s refl)), refl))
 
 -- the answer, and every row of both lent tables
-outcome-once : (y : TraceOutcome) {r r' : Answer} {w w' p p' : List Lot} → traceOutcomeOf r w p ≡ y → traceOutcomeOf r' w' p' ≡ y → (r ≡ r') × (w ≡ w') × (p ≡ p')
-outcome-once y e f =
-    (told-once _ _ (ap (λ (x : TraceOutcome). x.reply) (e ∙ sym f)), ap (λ (x : TraceOutcome). x.work) (e ∙ sym f), ap (λ (x : TraceOutcome). x.pieces) (e ∙ sym f))
+outcome_once : (y : TraceOutcome) {r r' : Answer} {w w' p p' : List Lot} → trace_outcome_of r w p ≡ y → trace_outcome_of r' w' p' ≡ y → (r ≡ r') × (w ≡ w') × (p ≡ p')
+outcome_once y e f =
+    (told_once _ _ (ap (λ (x : TraceOutcome). x.reply) (e ∙ sym f)), ap (λ (x : TraceOutcome). x.work) (e ∙ sym f), ap (λ (x : TraceOutcome). x.pieces) (e ∙ sym f))
 
-pub trace-once : Coincide trace.ended (λ M 𝓤. trace.clauses 𝓤)
-trace-once w x g = both w (λ p q. let o = outcome-once _ p q in (o.0, λ j. (tt, (tt, (tt, (tt, (o.1 j, (o.2 j, (tt, tt)))))))))
+pub trace_once : Coincide trace.ended (λ M 𝓤. trace.clauses 𝓤)
+trace_once w x g = both w (λ p q. let o = outcome_once _ p q in (o.0, λ j. (tt, (tt, (tt, (tt, (o.1 j, (o.2 j, (tt, tt)))))))))

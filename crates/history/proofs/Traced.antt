@@ -12,110 +12,110 @@ use Rattle.rules.specs.declared.rows.Nonce.{Nonce}
 use Rattle.rules.specs.declared.rows.Lot.{Lot}
 use Rattle.rules.specs.declared.answers.Refusal.{Refusal}
 use Rattle.rules.specs.declared.answers.Answer.{Answer}
-use Rattle.rules.specs.Limits.{historyRows}
+use Rattle.rules.specs.Limits.{history_rows}
 use Rattle.rules.specs.Lists.{all}
-use Rattle.rules.specs.Tables.{rows_of, recordShape}
-use Rattle.rules.specs.State.{State, Book, view, historyOf}
-use Rattle.rules.specs.Replies.{toldRefusal, told, plain, smallest}
-use Rattle.rules.specs.Refusals.{traceRefusals}
-use Rattle.rules.specs.Frame.{inFrame}
-use Rattle.rules.specs.History.{historyInFrame, withdrawals}
-use Rattle.rules.specs.Lots.{noLot, pieces}
-use Rattle.rules.specs.Answer.{badHistory, inFront, traceNumber, traceAnswer}
+use Rattle.rules.specs.Tables.{rows_of, record_shape}
+use Rattle.rules.specs.State.{State, Book, view, history_of}
+use Rattle.rules.specs.Replies.{told_refusal, told, plain, smallest}
+use Rattle.rules.specs.Refusals.{trace_refusals}
+use Rattle.rules.specs.Frame.{in_frame}
+use Rattle.rules.specs.History.{history_in_frame, withdrawals}
+use Rattle.rules.specs.Lots.{no_lot, pieces}
+use Rattle.rules.specs.Answer.{bad_history, in_front, trace_number, trace_answer}
 use Rattle.rules.proofs.Laying.{length-rows}
-use Rattle.rules.proofs.Tests.{neither, not-holds, twice-not, all-at, none-applies}
+use Rattle.rules.proofs.Tests.{neither, not-holds, twice_not, all-at, none-applies}
 use Rattle.rules.proofs.Accepts.{not_done}
-use Rattle.desk.specs.Parts.{isDone}
-use Rattle.desk.proofs.Chains.{Entry, chain, notBelow, chain-told, done-number, refused-number}
+use Rattle.desk.specs.Parts.{is_done}
+use Rattle.desk.proofs.Chains.{Entry, chain, not_below, chain-told, done-number, refused-number}
 use Rattle.rules.proofs.Books.{Framed, framed}
-use Rattle.lots.specs.Traces.{beforePayment}
-use Rattle.records.specs.Test.{historyFrame}
-use Rattle.history.specs.Tracing.{traceOutcomeOf, historyRefusals, traceNumberFor}
+use Rattle.lots.specs.Traces.{before_payment}
+use Rattle.records.specs.Test.{history_frame}
+use Rattle.history.specs.Tracing.{trace_outcome_of, history_refusals, trace_number_for}
 use Rattle.replays.specs.Replaying.{CanTrace, Traces}
 use Rattle.records.proofs.Counting.{history-whole}
-use Rattle.replays.proofs.Payments.{no-payment}
+use Rattle.replays.proofs.Payments.{no_payment_lem}
 
 -- ---- the table of refusals
-abbrev pub traceEntries : Bool → ℕ → ℕ → ℕ → ℕ → List Entry
-traceEntries isHistory records rows places at =
+abbrev pub trace_entries : Bool → ℕ → ℕ → ℕ → ℕ → List Entry
+trace_entries isHistory records rows places at =
     (Refusal.BadBook, not isHistory)
     ∷ (Refusal.TableSmall, ltb rows records || ltb places records)
     ∷ (Refusal.NoSuchPayment, leb records at)
     ∷ []
 
-pub history-told : (history : List ℕ) (records rows places : ℕ) (n : Nonce) (s : State) → s.history ≡ rows_of recordShape records history
-    → told (chain (traceEntries (historyFrame history records) records rows places (length (beforePayment n.0 (rows_of recordShape records history)))))
-    ≡ plain (smallest (historyRefusals history records rows places s n))
-unfolding traceRefusals toldRefusal notBelow all
+pub history-told : (history : List ℕ) (records rows places : ℕ) (n : Nonce) (s : State) → s.history ≡ rows_of record_shape records history
+    → told (chain (trace_entries (history_frame history records) records rows places (length (before_payment n.0 (rows_of record_shape records history)))))
+    ≡ plain (smallest (history_refusals history records rows places s n))
+unfolding trace_refusals told_refusal not_below all
 history-told history records rows places n s e =
-    rw (e, ← no-payment n.0 (rows_of recordShape records history), length-rows recordShape records history)
-    (chain-told (traceEntries (historyFrame history records) records rows places (length (beforePayment n.0 (rows_of recordShape records history)))) refl)
+    rw (e, ← no_payment_lem n.0 (rows_of record_shape records history), length-rows record_shape records history)
+    (chain-told (trace_entries (history_frame history records) records rows places (length (before_payment n.0 (rows_of record_shape records history)))) refl)
 
 -- behind the frame's test it tells the number that the rules give
 pub trace-told : (b : Book) (rows places : ℕ) (n : Nonce) (a found : Answer)
-    → told found ≡ plain (smallest (historyRefusals b.history b.desk.counts.records rows places (view b) n))
-    → a ≡ cond (not (inFrame b)) (Answer.Refused Refusal.BadBook) found → told a ≡ plain (traceNumberFor b rows places n)
-unfolding traceNumberFor traceRefusals toldRefusal notBelow all
-trace-told b rows places n a found h p = go (inFrame b) refl p
+    → told found ≡ plain (smallest (history_refusals b.history b.desk.counts.records rows places (view b) n))
+    → a ≡ cond (not (in_frame b)) (Answer.Refused Refusal.BadBook) found → told a ≡ plain (trace_number_for b rows places n)
+unfolding trace_number_for trace_refusals told_refusal not_below all
+trace-told b rows places n a found h p = go (in_frame b) refl p
   where
-    go : (t : Bool) → inFrame b ≡ t → a ≡ cond (not t) (Answer.Refused Refusal.BadBook) found → told a ≡ plain (traceNumberFor b rows places n)
+    go : (t : Bool) → in_frame b ≡ t → a ≡ cond (not t) (Answer.Refused Refusal.BadBook) found → told a ≡ plain (trace_number_for b rows places n)
     go true f q = rw (q, f, ← history-whole b f) h
     go false f q = rw (q, f) (chain-told ((Refusal.BadBook, true) ∷ (Refusal.TableSmall, _) ∷ (Refusal.NoSuchPayment, _) ∷ []) refl)
 
 -- ---- the two ends
-module _ (b : Book) (work out : List Lot) (n : Nonce) (a : Answer) (tells : told a ≡ plain (traceNumberFor b (length work) (length out) n)) where
+module _ (b : Book) (work out : List Lot) (n : Nonce) (a : Answer) (tells : told a ≡ plain (trace_number_for b (length work) (length out) n)) where
   -- the same number
-  number_is : traceNumberFor b (length work) (length out) n ≡ traceNumber b work out n
-  unfolding traceNumberFor traceNumber
+  number_is : trace_number_for b (length work) (length out) n ≡ trace_number b work out n
+  unfolding trace_number_for trace_number
   number_is = refl
 
   -- refused: both tables as they came
-  pub trace-refused : isDone a ≡ false → traceOutcomeOf a work out ≡ traceAnswer b work out n
-  unfolding traceAnswer
+  pub trace-refused : is_done a ≡ false → trace_outcome_of a work out ≡ trace_answer b work out n
+  unfolding trace_answer
   trace-refused d =
-      let k : ℕ = traceNumber b work out n in
-      let no : k ≢ 0 = λ z. refused-number a (traceNumberFor b (length work) (length out) n) tells d (number_is ∙ z) in
+      let k : ℕ = trace_number b work out n in
+      let no : k ≢ 0 = λ z. refused-number a (trace_number_for b (length work) (length out) n) tells d (number_is ∙ z) in
       rw (
-        not_done k (told (Answer.Traced (length (pieces (historyOf b) n)))) (plain k) no,
-        not_done k (replicate (length work) noLot) work no,
-        not_done k (inFront (pieces (historyOf b) n) out) out no,
+        not_done k (told (Answer.Traced (length (pieces (history_of b) n)))) (plain k) no,
+        not_done k (replicate (length work) no_lot) work no,
+        not_done k (in_front (pieces (history_of b) n) out) out no,
         tells,
         number_is,
       )
 
-  done : isDone a ≡ true → traceNumberFor b (length work) (length out) n ≡ 0
-  done d = done-number a (traceNumberFor b (length work) (length out) n) tells d
+  done : is_done a ≡ true → trace_number_for b (length work) (length out) n ≡ 0
+  done d = done-number a (trace_number_for b (length work) (length out) n) tells d
 
   -- not refused: the history is one, and it can be traced
-  pub few-records : isDone a ≡ true → b.desk.counts.records ≤ historyRows
-  unfolding traceNumberFor traceRefusals view toldRefusal all
+  pub few-records : is_done a ≡ true → b.desk.counts.records ≤ history_rows
+  unfolding trace_number_for trace_refusals view told_refusal all
   few-records d =
-      let rs : List (ℕ × Bool) = badHistory b ∷ traceRefusals (length work) (length out) (view b) n in
+      let rs : List (ℕ × Bool) = bad_history b ∷ trace_refusals (length work) (length out) (view b) n in
       let none = none-applies rs refl (done d) in
-      let (u, v) = neither (not (inFrame b)) (not (historyInFrame (historyOf b))) (all-at (λ r. not r.1) rs 0 (1, false) refl none) in
-      let f : Framed b = framed b (twice-not (inFrame b) u) in
+      let (u, v) = neither (not (in_frame b)) (not (history_in_frame (history_of b))) (all-at (λ r. not r.1) rs 0 (1, false) refl none) in
+      let f : Framed b = framed b (twice_not (in_frame b) u) in
       f.records
 
-  pub can-trace : isDone a ≡ true → (held : List Lot) → b.desk.counts.records ≤ length held → CanTrace b.history b.desk.counts.records n.0 work held out
-  unfolding traceNumberFor traceRefusals view toldRefusal all
-  can-trace d held e =
-      let rs : List (ℕ × Bool) = badHistory b ∷ traceRefusals (length work) (length out) (view b) n in
+  pub can_trace : is_done a ≡ true → (held : List Lot) → b.desk.counts.records ≤ length held → CanTrace b.history b.desk.counts.records n.0 work held out
+  unfolding trace_number_for trace_refusals view told_refusal all
+  can_trace d held e =
+      let rs : List (ℕ × Bool) = bad_history b ∷ trace_refusals (length work) (length out) (view b) n in
       let none = none-applies rs refl (done d) in
       let no : (k : ℕ) → not (lib.ListN.get_or rs k (1, false)).1 ≡ true = λ k. all-at (λ r. not r.1) rs k (1, false) refl none in
-      let (u, v) = neither (not (inFrame b)) (not (historyInFrame (historyOf b))) (no 0) in
-      let f : Framed b = framed b (twice-not (inFrame b) u) in
-      let count : length (historyOf b) ≡ b.desk.counts.records = length-rows recordShape b.desk.counts.records b.history in
-      let (w, p) = neither (ltb (length work) (length (historyOf b))) (ltb (length out) (length (historyOf b))) (no 1) in
+      let (u, v) = neither (not (in_frame b)) (not (history_in_frame (history_of b))) (no 0) in
+      let f : Framed b = framed b (twice_not (in_frame b) u) in
+      let count : length (history_of b) ≡ b.desk.counts.records = length-rows record_shape b.desk.counts.records b.history in
+      let (w, p) = neither (ltb (length work) (length (history_of b))) (ltb (length out) (length (history_of b))) (no 1) in
       record {
         few = f.records;
-        room = omega (arith, count, ltb-false (length work) (length (historyOf b)) (not-holds (ltb (length work) (length (historyOf b))) w));
-        places = omega (arith, count, ltb-false (length out) (length (historyOf b)) (not-holds (ltb (length out) (length (historyOf b))) p));
+        room = omega (arith, count, ltb-false (length work) (length (history_of b)) (not-holds (ltb (length work) (length (history_of b))) w));
+        places = omega (arith, count, ltb-false (length out) (length (history_of b)) (not-holds (ltb (length out) (length (history_of b))) p));
         scratch = e;
-        paid = leb-false (withdrawals (historyOf b)) n.0 (not-holds (leb (withdrawals (historyOf b)) n.0) (no 2));
+        paid = leb-false (withdrawals (history_of b)) n.0 (not-holds (leb (withdrawals (history_of b)) n.0) (no 2));
       }
 
   -- done: what was handed out and left
-  pub trace-done : isDone a ≡ true → (count : ℕ) (cleared laid : List Lot) → Traces b.history b.desk.counts.records n.0 work out count cleared laid
-      → traceOutcomeOf (Answer.Traced count) cleared laid ≡ traceAnswer b work out n
-  unfolding traceAnswer
+  pub trace-done : is_done a ≡ true → (count : ℕ) (cleared laid : List Lot) → Traces b.history b.desk.counts.records n.0 work out count cleared laid
+      → trace_outcome_of (Answer.Traced count) cleared laid ≡ trace_answer b work out n
+  unfolding trace_answer
   trace-done d count cleared laid t = rw (sym number_is ∙ done d, t.counts, t.clears, t.lays)

@@ -6,18 +6,18 @@ use Rattle.rules.specs.declared.answers.Answer.{Answer}
 use Rattle.rules.specs.declared.answers.Refusal.{Refusal}
 use Rattle.rules.specs.State.{State, Book, view}
 use Rattle.rules.specs.Replies.{told, refuse, smallest}
-use Rattle.rules.specs.Refusals.{traceRefusals}
-use Rattle.rules.specs.Answer.{badHistory, TraceOutcome}
-use Rattle.records.specs.Test.{historyFrame}
+use Rattle.rules.specs.Refusals.{trace_refusals}
+use Rattle.rules.specs.Answer.{bad_history, TraceOutcome}
+use Rattle.records.specs.Test.{history_frame}
 
 -- what trace answers and leaves of its two tables
-abbrev pub traceOutcomeOf : Answer → List Lot → List Lot → TraceOutcome
-traceOutcomeOf r work pieces = record { reply = told r; work = work; pieces = pieces }
+abbrev pub trace_outcome_of : Answer → List Lot → List Lot → TraceOutcome
+trace_outcome_of r work pieces = record { reply = told r; work = work; pieces = pieces }
 
 -- the refusals of a trace of a book in frame, whose history is so many rows of a table: BadBook is said of the history alone
-abbrev pub historyRefusals : List ℕ → ℕ → ℕ → ℕ → State → Nonce → List (ℕ × Bool)
-historyRefusals history records workRows pieceRows s n = refuse Refusal.BadBook (not (historyFrame history records)) ∷ traceRefusals workRows pieceRows s n
+abbrev pub history_refusals : List ℕ → ℕ → ℕ → ℕ → State → Nonce → List (ℕ × Bool)
+history_refusals history records workRows pieceRows s n = refuse Refusal.BadBook (not (history_frame history records)) ∷ trace_refusals workRows pieceRows s n
 
 -- the number that a trace gets with tables of these many rows
-unfoldable pub traceNumberFor : Book → ℕ → ℕ → Nonce → ℕ
-traceNumberFor b workRows pieceRows n = smallest (badHistory b ∷ traceRefusals workRows pieceRows (view b) n)
+unfoldable pub trace_number_for : Book → ℕ → ℕ → Nonce → ℕ
+trace_number_for b workRows pieceRows n = smallest (bad_history b ∷ trace_refusals workRows pieceRows (view b) n)

@@ -1,10 +1,10 @@
 // What a trace is refused for.
 ghost use Rattle.std.specs.Prelude.{◌≡◌};
-ghost use Rattle.rules.specs.Tables.{rows_of, recordShape};
+ghost use Rattle.rules.specs.Tables.{rows_of, record_shape};
 ghost use Rattle.rules.specs.State.{State};
 ghost use Rattle.rules.specs.Replies.{told, plain, smallest};
-ghost use Rattle.rules.specs.Answer.{bookOf};
-ghost use Rattle.history.specs.Tracing.{historyRefusals, traceNumberFor};
+ghost use Rattle.rules.specs.Answer.{book_of};
+ghost use Rattle.history.specs.Tracing.{history_refusals, trace_number_for};
 
 use desk::answers::refuse;
 use frames::framed;
@@ -24,7 +24,7 @@ pub(crate) fn reply_to(
     places: usize,
     n: Nonce,
 ) -> Answer
-    ensures { told result ≡ plain (traceNumberFor (bookOf d inbox.now outbox.now history.now) rows places n) }
+    ensures { told result ≡ plain (trace_number_for (book_of d inbox.now outbox.now history.now) rows places n) }
 {
     let is_framed = framed(d, inbox, outbox, history);
     let own = history_reply(history, d.counts.records, rows, places, n);
@@ -40,7 +40,7 @@ pub fn history_reply(
     places: usize,
     n: Nonce,
 ) -> Answer
-    ensures { (s : State) → s.history ≡ rows_of recordShape records history.now → told result ≡ plain (smallest (historyRefusals history.now records rows places s n)) }
+    ensures { (s : State) → s.history ≡ rows_of record_shape records history.now → told result ≡ plain (smallest (history_refusals history.now records rows places s n)) }
 {
     if !history_in_frame(history, records) {
         let why = Refusal::BadBook;

@@ -1,7 +1,7 @@
 // The trace of a payment: a replay in lots, where nothing is refused.
 ghost use Rattle.std.specs.Prelude.{◌≡◌};
-ghost use Rattle.rules.specs.Answer.{bookOf, traceAnswer};
-ghost use Rattle.history.specs.Tracing.{traceOutcomeOf};
+ghost use Rattle.rules.specs.Answer.{book_of, trace_answer};
+ghost use Rattle.history.specs.Tracing.{trace_outcome_of};
 
 use crate::refusals::reply_to;
 use desk::answers::is_done;
@@ -20,7 +20,7 @@ pub fn trace(
     pieces: &mut [Lot],
     n: Nonce,
 ) -> Answer
-    ensures { traceOutcomeOf result work.new pieces.new ≡ traceAnswer (bookOf d inbox.now outbox.now history.now) work.old pieces.old n }
+    ensures { trace_outcome_of result work.new pieces.new ≡ trace_answer (book_of d inbox.now outbox.now history.now) work.old pieces.old n }
 {
     let reply = reply_to(d, inbox, outbox, history, work.len(), pieces.len(), n);
     if !is_done(reply) {

@@ -7,13 +7,13 @@ use lib.ListN.{length, replicate, length-replicate}
 use Rattle.rules.specs.declared.rows.Deposit.{Deposit}
 use Rattle.rules.specs.declared.calls.ClaimFields.{ClaimFields}
 use Rattle.rules.specs.Lists.{any}
-use Rattle.rules.specs.Tables.{noDeposit}
+use Rattle.rules.specs.Tables.{no_deposit}
 use Rattle.rules.specs.State.{State}
 use Rattle.rules.specs.Effects.{matches}
 use Rattle.rules.specs.Coincide.{Coincide}
-use Rattle.rules.proofs.Told.{told-once, outcome-once}
-use Rattle.rules.proofs.Coincide.{both, value, someState, someOutside, noOutside}
-use Rattle.inbox.specs.After.{depositOf}
+use Rattle.rules.proofs.Told.{told_once, outcome_once}
+use Rattle.rules.proofs.Coincide.{both, value, some_state, some_outside, no_outside}
+use Rattle.inbox.specs.After.{deposit_of}
 use Rattle.inbox.specs.contracts.deposit as deposit
 use Rattle.inbox.specs.contracts.deposit_done as deposit-done
 use Rattle.inbox.specs.contracts.deposit_reply as deposit-reply
@@ -22,37 +22,37 @@ use Rattle.inbox.specs.contracts.claim_done as claim-done
 use Rattle.inbox.specs.contracts.claim_reply as claim-reply
 use Rattle.inbox.specs.contracts.is_unclaimed as is-unclaimed
 
-pub deposit-once : Coincide deposit.ended (λ M 𝓤. deposit.clauses 𝓤)
-deposit-once w x g = both w (λ p q. let o = outcome-once _ p q in (o.0, λ j. (tt, (o.1 j, (tt, (tt, (tt, tt)))))))
+pub deposit_once : Coincide deposit.ended (λ M 𝓤. deposit.clauses 𝓤)
+deposit_once w x g = both w (λ p q. let o = outcome_once _ p q in (o.0, λ j. (tt, (o.1 j, (tt, (tt, (tt, tt)))))))
 
-pub deposit-done-once : Coincide deposit-done.ended (λ M 𝓤. deposit-done.clauses 𝓤)
-deposit-done-once = deposit-once
+pub deposit_done_once : Coincide deposit-done.ended (λ M 𝓤. deposit-done.clauses 𝓤)
+deposit_done_once = deposit_once
 
-pub deposit-reply-once : Coincide deposit-reply.ended (λ M 𝓤. deposit-reply.clauses 𝓤)
-deposit-reply-once w x g =
-    let s : State = someState [] [] (replicate x.args.1.1.0 noDeposit) (someOutside x.args.0.now x.args.1.0 [] []) 0 in
-    let n : length (replicate x.args.1.1.0 noDeposit) ≡ x.args.1.1.0 = length-replicate x.args.1.1.0 noDeposit in
-    both w (λ p q. (told-once _ _ (p s refl refl n ∙ sym (q s refl refl n)), refl))
+pub deposit_reply_once : Coincide deposit-reply.ended (λ M 𝓤. deposit-reply.clauses 𝓤)
+deposit_reply_once w x g =
+    let s : State = some_state [] [] (replicate x.args.1.1.0 no_deposit) (some_outside x.args.0.now x.args.1.0 [] []) 0 in
+    let n : length (replicate x.args.1.1.0 no_deposit) ≡ x.args.1.1.0 = length-replicate x.args.1.1.0 no_deposit in
+    both w (λ p q. (told_once _ _ (p s refl refl n ∙ sym (q s refl refl n)), refl))
 
-pub claim-once : Coincide claim.ended (λ M 𝓤. claim.clauses 𝓤)
-claim-once w x g = both w (λ p q. let o = outcome-once _ p q in (o.0, λ j. (tt, (o.1 j, (tt, (o.3 j, (tt, tt)))))))
+pub claim_once : Coincide claim.ended (λ M 𝓤. claim.clauses 𝓤)
+claim_once w x g = both w (λ p q. let o = outcome_once _ p q in (o.0, λ j. (tt, (o.1 j, (tt, (o.3 j, (tt, tt)))))))
 
-pub claim-done-once : Coincide claim-done.ended (λ M 𝓤. claim-done.clauses 𝓤)
-claim-done-once = claim-once
+pub claim_done_once : Coincide claim-done.ended (λ M 𝓤. claim-done.clauses 𝓤)
+claim_done_once = claim_once
 
 -- an inbox in which the claimed deposit waits, or does not
 waiting : Bool → ClaimFields → List Deposit
-waiting t c = cond t (depositOf c ∷ []) []
+waiting t c = cond t (deposit_of c ∷ []) []
 
 waits : (t : Bool) (c : ClaimFields) → any (matches c) (waiting t c) ≡ t
 unfolding any matches waiting
 waits true c = rw (eq-eqb c.number.0 c.number.0 refl, eq-eqb c.asset c.asset refl, eq-eqb c.amount c.amount refl, eq-eqb c.member c.member refl)
 waits false c = refl
 
-pub claim-reply-once : Coincide claim-reply.ended (λ M 𝓤. claim-reply.clauses 𝓤)
-claim-reply-once w x g =
-    let s : State = someState [] [] (waiting x.args.0 x.args.1.1.0) noOutside x.args.1.0 in
-    both w (λ p q. (told-once _ _ (p s (waits x.args.0 x.args.1.1.0) (length-replicate _ _) ∙ sym (q s (waits x.args.0 x.args.1.1.0) (length-replicate _ _))), refl))
+pub claim_reply_once : Coincide claim-reply.ended (λ M 𝓤. claim-reply.clauses 𝓤)
+claim_reply_once w x g =
+    let s : State = some_state [] [] (waiting x.args.0 x.args.1.1.0) no_outside x.args.1.0 in
+    both w (λ p q. (told_once _ _ (p s (waits x.args.0 x.args.1.1.0) (length-replicate _ _) ∙ sym (q s (waits x.args.0 x.args.1.1.0) (length-replicate _ _))), refl))
 
-pub is-unclaimed-once : Coincide is-unclaimed.ended (λ M 𝓤. is-unclaimed.clauses 𝓤)
-is-unclaimed-once w x g = value w
+pub is_unclaimed_once : Coincide is-unclaimed.ended (λ M 𝓤. is-unclaimed.clauses 𝓤)
+is_unclaimed_once w x g = value w

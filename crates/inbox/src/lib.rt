@@ -9,9 +9,9 @@ ghost use Rattle.rules.specs.Replies.{told, plain, smallest};
 ghost use Rattle.rules.specs.Refusals.{table};
 ghost use Rattle.rules.specs.Lists.{any};
 ghost use Rattle.rules.specs.Effects.{matches};
-ghost use Rattle.rules.specs.Answer.{answer, bookOf, outcomeOf};
+ghost use Rattle.rules.specs.Answer.{answer, book_of, outcome_of};
 ghost use Rattle.tables.specs.Rows.{place_of};
-ghost use Rattle.inbox.specs.After.{row_of, isGap, passesCeiling, isUnclaimed, CanDeposit, CanClaim, depositedDesk, claimedDesk};
+ghost use Rattle.inbox.specs.After.{row_of, is_gap, passes_ceiling, is_unclaimed, CanDeposit, CanClaim, deposited_desk, claimed_desk};
 
 use desk::answers::{is_done, refuse};
 use desk::entries::claim_record;
@@ -28,7 +28,7 @@ use tables::{find_row, take_out};
 
 // Deposit (number, asset, amount, member): added at the end of the inbox.
 pub fn deposit(d: Desk, inbox: &mut [u64], outbox: &[u64], history: &[u64], x: Deposit) -> Answered
-    ensures { outcomeOf result inbox.new outbox.now history.now ≡ answer (bookOf d inbox.old outbox.now history.now) (Call.Deposit x) }
+    ensures { outcome_of result inbox.new outbox.now history.now ≡ answer (book_of d inbox.old outbox.now history.now) (Call.Deposit x) }
 {
     let is_framed = framed(d, inbox, outbox, history);
     let counts = d.counts;
@@ -52,8 +52,8 @@ pub fn deposit_done(
     history: &[u64],
     x: Deposit,
 ) -> Answered
-    requires { Accepted (bookOf d inbox.old outbox.now history.now) (Call.Deposit x) }
-    ensures { outcomeOf result inbox.new outbox.now history.now ≡ answer (bookOf d inbox.old outbox.now history.now) (Call.Deposit x) }
+    requires { Accepted (book_of d inbox.old outbox.now history.now) (Call.Deposit x) }
+    ensures { outcome_of result inbox.new outbox.now history.now ≡ answer (book_of d inbox.old outbox.now history.now) (Call.Deposit x) }
 {
     put_deposit(inbox, d.counts.unclaimed, x);
     let desk = deposited(d, x);
@@ -89,7 +89,7 @@ pub fn deposit_reply(
 
 // Whether a deposit number lies above last + 1 or above 4,294,967,295, on any two numbers.
 fn is_gap(last: u64, number: u64) -> bool
-    ensures { result ≡ isGap last number }
+    ensures { result ≡ is_gap last number }
 {
     if number <= last {
         return HIGHEST_NUMBER < number;
@@ -99,7 +99,7 @@ fn is_gap(last: u64, number: u64) -> bool
 
 // Whether a total with the amount would pass the ceiling, on any two numbers.
 fn passes_ceiling(total: u64, amount: u64) -> bool
-    ensures { result ≡ passesCeiling total amount }
+    ensures { result ≡ passes_ceiling total amount }
 {
     if CEILING < amount {
         return true;
@@ -110,7 +110,7 @@ fn passes_ceiling(total: u64, amount: u64) -> bool
 // The number is used up, the asset's lifetime deposits grow, and one deposit more is unclaimed.
 fn deposited(d: Desk, x: Deposit) -> Desk
     requires { CanDeposit d x }
-    ensures { result ≡ depositedDesk d x }
+    ensures { result ≡ deposited_desk d x }
 {
     let mut next = d;
     let more = of_eight(&next.lifetime, x.asset) + x.amount;
@@ -132,7 +132,7 @@ pub fn claim(
     history: &mut [u64],
     c: ClaimFields,
 ) -> Answered
-    ensures { outcomeOf result inbox.new outbox.now history.new ≡ answer (bookOf d inbox.old outbox.now history.old) (Call.Claim c) }
+    ensures { outcome_of result inbox.new outbox.now history.new ≡ answer (book_of d inbox.old outbox.now history.old) (Call.Claim c) }
 {
     let is_framed = framed(d, inbox, outbox, history);
     let waits = is_unclaimed(inbox, d.counts.unclaimed, c);
@@ -152,8 +152,8 @@ pub fn claim_done(
     history: &mut [u64],
     c: ClaimFields,
 ) -> Answered
-    requires { Accepted (bookOf d inbox.old outbox.now history.old) (Call.Claim c) }
-    ensures { outcomeOf result inbox.new outbox.now history.new ≡ answer (bookOf d inbox.old outbox.now history.old) (Call.Claim c) }
+    requires { Accepted (book_of d inbox.old outbox.now history.old) (Call.Claim c) }
+    ensures { outcome_of result inbox.new outbox.now history.new ≡ answer (book_of d inbox.old outbox.now history.old) (Call.Claim c) }
 {
     let place = place_of(inbox, d.counts.unclaimed, c);
     take_out(inbox, DEPOSIT_WIDTH, place, d.counts.unclaimed);
@@ -168,7 +168,7 @@ pub fn claim_done(
 
 // Whether one of the first n rows is an unclaimed deposit with exactly the claim's four fields.
 pub fn is_unclaimed(inbox: &[u64], n: usize, c: ClaimFields) -> bool
-    ensures { result ≡ isUnclaimed c n inbox.now }
+    ensures { result ≡ is_unclaimed c n inbox.now }
 {
     place_of(inbox, n, c) != n
 }
@@ -197,7 +197,7 @@ pub fn claim_reply(waits: bool, records: usize, c: ClaimFields) -> Answer
 // The balance grows, one deposit fewer is unclaimed, and there is one record more.
 fn claimed(d: Desk, c: ClaimFields) -> Desk
     requires { CanClaim d c }
-    ensures { result ≡ claimedDesk d c }
+    ensures { result ≡ claimed_desk d c }
 {
     let mut next = d;
     let more = balance_of(&next.balances, c.member, c.asset) + c.amount;

@@ -4,8 +4,8 @@ use mathlib.Core.List.{[]}
 use lib.ListN.{length, length-replicate}
 use Rattle.rules.specs.State.{State}
 use Rattle.rules.specs.Coincide.{Coincide}
-use Rattle.rules.proofs.Told.{told-once, outcome-once}
-use Rattle.rules.proofs.Coincide.{both, someState, noOutside}
+use Rattle.rules.proofs.Told.{told_once, outcome_once}
+use Rattle.rules.proofs.Coincide.{both, some_state, no_outside}
 use Rattle.ledger.specs.contracts.transfer as transfer
 use Rattle.ledger.specs.contracts.transfer_done as transfer-done
 use Rattle.ledger.specs.contracts.transfer_reply as transfer-reply
@@ -15,34 +15,34 @@ use Rattle.ledger.specs.contracts.grant_reply as grant-reply
 use Rattle.ledger.specs.contracts.sign as sign
 use Rattle.ledger.specs.contracts.sign_reply as sign-reply
 
-pub transfer-once : Coincide transfer.ended (λ M 𝓤. transfer.clauses 𝓤)
-transfer-once w x g = both w (λ p q. let o = outcome-once _ p q in (o.0, λ j. (tt, (tt, (tt, (o.3 j, (tt, tt)))))))
+pub transfer_once : Coincide transfer.ended (λ M 𝓤. transfer.clauses 𝓤)
+transfer_once w x g = both w (λ p q. let o = outcome_once _ p q in (o.0, λ j. (tt, (tt, (tt, (o.3 j, (tt, tt)))))))
 
-pub transfer-done-once : Coincide transfer-done.ended (λ M 𝓤. transfer-done.clauses 𝓤)
-transfer-done-once = transfer-once
+pub transfer_done_once : Coincide transfer-done.ended (λ M 𝓤. transfer-done.clauses 𝓤)
+transfer_done_once = transfer_once
 
-pub transfer-reply-once : Coincide transfer-reply.ended (λ M 𝓤. transfer-reply.clauses 𝓤)
-transfer-reply-once w x g =
-    let s : State = someState x.args.0.now [] [] noOutside x.args.1.0 in
+pub transfer_reply_once : Coincide transfer-reply.ended (λ M 𝓤. transfer-reply.clauses 𝓤)
+transfer_reply_once w x g =
+    let s : State = some_state x.args.0.now [] [] no_outside x.args.1.0 in
     let n : length s.history ≡ x.args.1.0 = length-replicate x.args.1.0 _ in
-    both w (λ p q. (told-once _ _ (p s refl n ∙ sym (q s refl n)), refl))
+    both w (λ p q. (told_once _ _ (p s refl n ∙ sym (q s refl n)), refl))
 
-pub grant-once : Coincide grant.ended (λ M 𝓤. grant.clauses 𝓤)
-grant-once w x g = both w (λ p q. let o = outcome-once _ p q in (o.0, λ j. (tt, (tt, (tt, (o.3 j, (tt, tt)))))))
+pub grant_once : Coincide grant.ended (λ M 𝓤. grant.clauses 𝓤)
+grant_once w x g = both w (λ p q. let o = outcome_once _ p q in (o.0, λ j. (tt, (tt, (tt, (o.3 j, (tt, tt)))))))
 
-pub grant-done-once : Coincide grant-done.ended (λ M 𝓤. grant-done.clauses 𝓤)
-grant-done-once = grant-once
+pub grant_done_once : Coincide grant-done.ended (λ M 𝓤. grant-done.clauses 𝓤)
+grant_done_once = grant_once
 
-pub grant-reply-once : Coincide grant-reply.ended (λ M 𝓤. grant-reply.clauses 𝓤)
-grant-reply-once w x g =
-    let s : State = someState [] x.args.0.now [] noOutside x.args.1.0 in
+pub grant_reply_once : Coincide grant-reply.ended (λ M 𝓤. grant-reply.clauses 𝓤)
+grant_reply_once w x g =
+    let s : State = some_state [] x.args.0.now [] no_outside x.args.1.0 in
     let n : length s.history ≡ x.args.1.0 = length-replicate x.args.1.0 _ in
-    both w (λ p q. (told-once _ _ (p s refl n ∙ sym (q s refl n)), refl))
+    both w (λ p q. (told_once _ _ (p s refl n ∙ sym (q s refl n)), refl))
 
-pub sign-once : Coincide sign.ended (λ M 𝓤. sign.clauses 𝓤)
-sign-once w x g = both w (λ p q. let o = outcome-once _ p q in (o.0, refl))
+pub sign_once : Coincide sign.ended (λ M 𝓤. sign.clauses 𝓤)
+sign_once w x g = both w (λ p q. let o = outcome_once _ p q in (o.0, refl))
 
-pub sign-reply-once : Coincide sign-reply.ended (λ M 𝓤. sign-reply.clauses 𝓤)
-sign-reply-once w x g =
-    let s : State = someState [] x.args.0.now [] noOutside 0 in
-    both w (λ p q. (told-once _ _ (p s refl ∙ sym (q s refl)), refl))
+pub sign_reply_once : Coincide sign-reply.ended (λ M 𝓤. sign-reply.clauses 𝓤)
+sign_reply_once w x g =
+    let s : State = some_state [] x.args.0.now [] no_outside 0 in
+    both w (λ p q. (told_once _ _ (p s refl ∙ sym (q s refl)), refl))

@@ -4,12 +4,12 @@
 // row.
 ghost use Rattle.std.specs.Prelude.{◌≡◌, length};
 ghost use Rattle.rules.specs.declared.calls.Call.{Call};
-ghost use Rattle.ledger.specs.After.{CanTransfer, CanGrant, transferredDesk, grantedDesk};
+ghost use Rattle.ledger.specs.After.{CanTransfer, CanGrant, transferred_desk, granted_desk};
 ghost use Rattle.rules.specs.Facts.{Accepted};
 ghost use Rattle.rules.specs.State.{State};
 ghost use Rattle.rules.specs.Replies.{told, plain, smallest};
 ghost use Rattle.rules.specs.Refusals.{table};
-ghost use Rattle.rules.specs.Answer.{answer, bookOf, outcomeOf};
+ghost use Rattle.rules.specs.Answer.{answer, book_of, outcome_of};
 
 use desk::answers::{is_done, refuse};
 use desk::entries::{grant_record, transfer_record};
@@ -30,7 +30,7 @@ pub fn transfer(
     history: &mut [u64],
     t: TransferFields,
 ) -> Answered
-    ensures { outcomeOf result inbox.now outbox.now history.new ≡ answer (bookOf d inbox.now outbox.now history.old) (Call.Transfer t) }
+    ensures { outcome_of result inbox.now outbox.now history.new ≡ answer (book_of d inbox.now outbox.now history.old) (Call.Transfer t) }
 {
     let is_framed = framed(d, inbox, outbox, history);
     let found = transfer_reply(&d.balances, d.counts.records, t);
@@ -52,8 +52,8 @@ pub fn transfer_done(
     history: &mut [u64],
     t: TransferFields,
 ) -> Answered
-    requires { Accepted (bookOf d inbox.now outbox.now history.old) (Call.Transfer t) }
-    ensures { outcomeOf result inbox.now outbox.now history.new ≡ answer (bookOf d inbox.now outbox.now history.old) (Call.Transfer t) }
+    requires { Accepted (book_of d inbox.now outbox.now history.old) (Call.Transfer t) }
+    ensures { outcome_of result inbox.now outbox.now history.new ≡ answer (book_of d inbox.now outbox.now history.old) (Call.Transfer t) }
 {
     let entry = transfer_record(t);
     put_record(history, d.counts.records, entry);
@@ -84,7 +84,7 @@ pub fn transfer_reply(balances: &[u64; 128], records: usize, t: TransferFields) 
 // The sender's balance falls, the receiver's grows, and there is one record more.
 fn transferred(d: Desk, t: TransferFields) -> Desk
     requires { CanTransfer d t }
-    ensures { result ≡ transferredDesk d t }
+    ensures { result ≡ transferred_desk d t }
 {
     let mut next = d;
     let less = balance_of(&next.balances, t.from, t.asset) - t.amount;
@@ -105,7 +105,7 @@ pub fn grant(
     history: &mut [u64],
     g: GrantFields,
 ) -> Answered
-    ensures { outcomeOf result inbox.now outbox.now history.new ≡ answer (bookOf d inbox.now outbox.now history.old) (Call.Grant g) }
+    ensures { outcome_of result inbox.now outbox.now history.new ≡ answer (book_of d inbox.now outbox.now history.old) (Call.Grant g) }
 {
     let is_framed = framed(d, inbox, outbox, history);
     let found = grant_reply(&d.holders, d.counts.records, g);
@@ -124,8 +124,8 @@ pub fn grant_done(
     history: &mut [u64],
     g: GrantFields,
 ) -> Answered
-    requires { Accepted (bookOf d inbox.now outbox.now history.old) (Call.Grant g) }
-    ensures { outcomeOf result inbox.now outbox.now history.new ≡ answer (bookOf d inbox.now outbox.now history.old) (Call.Grant g) }
+    requires { Accepted (book_of d inbox.now outbox.now history.old) (Call.Grant g) }
+    ensures { outcome_of result inbox.now outbox.now history.new ≡ answer (book_of d inbox.now outbox.now history.old) (Call.Grant g) }
 {
     let entry = grant_record(g);
     put_record(history, d.counts.records, entry);
@@ -151,7 +151,7 @@ pub fn grant_reply(holders: &[u64; 8], records: usize, g: GrantFields) -> Answer
 // The domain has another holder, and there is one record more.
 fn granted(d: Desk, g: GrantFields) -> Desk
     requires { CanGrant d g }
-    ensures { result ≡ grantedDesk d g }
+    ensures { result ≡ granted_desk d g }
 {
     let mut next = d;
     set_of_eight(&mut next.holders, g.domain, g.to);
@@ -163,7 +163,7 @@ fn granted(d: Desk, g: GrantFields) -> Desk
 
 // Sign (member, domain): allowed exactly if the member holds the domain. Changes nothing.
 pub fn sign(d: Desk, inbox: &[u64], outbox: &[u64], history: &[u64], s: SignFields) -> Answered
-    ensures { outcomeOf result inbox.now outbox.now history.now ≡ answer (bookOf d inbox.now outbox.now history.now) (Call.Sign s) }
+    ensures { outcome_of result inbox.now outbox.now history.now ≡ answer (book_of d inbox.now outbox.now history.now) (Call.Sign s) }
 {
     let is_framed = framed(d, inbox, outbox, history);
     let found = sign_reply(&d.holders, s);

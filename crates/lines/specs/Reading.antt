@@ -1,28 +1,28 @@
 -- Reading one field after another: so many numbers, and nothing after the last.
 use Rattle.std.specs.Prelude.{ℕ, List, [], ◌∷◌}
 use Rattle.rules.specs.declared.calls.Field.{Field}
-use Rattle.rules.specs.Lines.{fieldsAfter, Numbers, wanted}
+use Rattle.rules.specs.Lines.{fields_after, Numbers, wanted}
 use Rattle.lines.specs.declared.read.Two.{Two}
 use Rattle.lines.specs.declared.read.Three.{Three}
 use Rattle.lines.specs.declared.read.Four.{Four}
 
 -- so many numbers from field k on, in a part that a field reader handed back
-unfoldable pub wantedIn : ℕ → ℕ → List ℕ → Numbers
-wantedIn k n s = wanted k n (fieldsAfter s)
+unfoldable pub wanted_in : ℕ → ℕ → List ℕ → Numbers
+wanted_in k n s = wanted k n (fields_after s)
 
 -- what the functions that read one, two, three or four numbers answer, as a list of them or the field that does not read
 unfoldable pub one : Field → Numbers
-one (Field.Number a) = Numbers.allRead (a ∷ [])
-one (Field.FailsAt k) = Numbers.failsAt k
+one (Field.Number a) = Numbers.all_read (a ∷ [])
+one (Field.FailsAt k) = Numbers.fails_at k
 
 unfoldable pub two : Two → Numbers
-two (Two.Numbers a b) = Numbers.allRead (a ∷ b ∷ [])
-two (Two.FailsAt k) = Numbers.failsAt k
+two (Two.Numbers a b) = Numbers.all_read (a ∷ b ∷ [])
+two (Two.FailsAt k) = Numbers.fails_at k
 
 unfoldable pub three : Three → Numbers
-three (Three.Numbers a b c) = Numbers.allRead (a ∷ b ∷ c ∷ [])
-three (Three.FailsAt k) = Numbers.failsAt k
+three (Three.Numbers a b c) = Numbers.all_read (a ∷ b ∷ c ∷ [])
+three (Three.FailsAt k) = Numbers.fails_at k
 
 unfoldable pub four : Four → Numbers
-four (Four.Numbers a b c d) = Numbers.allRead (a ∷ b ∷ c ∷ d ∷ [])
-four (Four.FailsAt k) = Numbers.failsAt k
+four (Four.Numbers a b c d) = Numbers.all_read (a ∷ b ∷ c ∷ d ∷ [])
+four (Four.FailsAt k) = Numbers.fails_at k

@@ -1,10 +1,10 @@
 // The line reader: a word, so many numbers after it, each after a tab, and nothing after the last.
 ghost use Rattle.std.specs.Prelude.{◌+◌, ◌<◌, ◌≡◌, length};
-ghost use Rattle.rules.specs.Limits.{highestField};
+ghost use Rattle.rules.specs.Limits.{highest_field};
 ghost use Rattle.rules.specs.Lists.{same};
-ghost use Rattle.rules.specs.Lines.{depositForm, claimForm, transferForm, withdrawForm, sendForm, settleForm, grantForm, signForm, traceForm};
-ghost use Rattle.rules.specs.Lines.{numbersOf, formed, readWhole, unread, readLine};
-ghost use Rattle.lines.specs.Reading.{wantedIn, one, two, three, four};
+ghost use Rattle.rules.specs.Lines.{deposit_form, claim_form, transfer_form, withdraw_form, send_form, settle_form, grant_form, sign_form, trace_form};
+ghost use Rattle.rules.specs.Lines.{numbers_of, formed, read_whole, unread, read_line};
+ghost use Rattle.lines.specs.Reading.{wanted_in, one, two, three, four};
 
 use fields::{ReadField, after_field, field_end, next_field};
 use rules::calls::{
@@ -35,7 +35,7 @@ enum Four {
 // A line "has at most 120 bytes". One that has more is read for the field that it tells, and no further than it would
 // be held.
 pub fn read_line(s: &[u8]) -> Line
-    ensures { result ≡ readLine s.now }
+    ensures { result ≡ read_line s.now }
 {
     if MOST_BYTES < s.len() {
         return Line::Malformed(unread_field(&s[..MOST_HELD]));
@@ -45,7 +45,7 @@ pub fn read_line(s: &[u8]) -> Line
 
 // The field that an over-long or unfinished line tells.
 pub fn unread_field(s: &[u8]) -> u64
-    ensures { Line.Malformed result ≡ unread (readWhole s.now) }
+    ensures { Line.Malformed result ≡ unread (read_whole s.now) }
 {
     match read_whole(s) {
         Line::Reads(c) => count_with_word(c),
@@ -55,7 +55,7 @@ pub fn unread_field(s: &[u8]) -> u64
 
 // "If all read, their count with the word."
 fn count_with_word(c: Call) -> u64
-    ensures { result ≡ length (numbersOf c) + 1 }
+    ensures { result ≡ length (numbers_of c) + 1 }
 {
     match c {
         Call::Deposit(_) => 5,
@@ -72,7 +72,7 @@ fn count_with_word(c: Call) -> u64
 
 // "A read line is one of nine calls, each with its own numbers." The word says which, and "the word is field 0".
 fn read_whole(s: &[u8]) -> Line
-    ensures { result ≡ readWhole s.now }
+    ensures { result ≡ read_whole s.now }
 {
     let e = field_end(s);
     let word = &s[..e];
@@ -109,8 +109,8 @@ fn read_whole(s: &[u8]) -> Line
 
 // Field k, and nothing after it: "one too many the next number".
 fn last_field(s: &[u8], k: u64) -> Field
-    requires { k < highestField }
-    ensures { one result ≡ wantedIn k 1 s.now }
+    requires { k < highest_field }
+    ensures { one result ≡ wanted_in k 1 s.now }
 {
     let ReadField::Number(n, end) = next_field(s, k) else {
         return Field::FailsAt(k);
@@ -123,7 +123,7 @@ fn last_field(s: &[u8], k: u64) -> Field
 
 // Two numbers, and nothing after them.
 fn two_fields(s: &[u8]) -> Two
-    ensures { two result ≡ wantedIn 1 2 s.now }
+    ensures { two result ≡ wanted_in 1 2 s.now }
 {
     let ReadField::Number(first, end) = next_field(s, 1) else {
         return Two::FailsAt(1);
@@ -136,7 +136,7 @@ fn two_fields(s: &[u8]) -> Two
 
 // Three of them.
 fn three_fields(s: &[u8]) -> Three
-    ensures { three result ≡ wantedIn 1 3 s.now }
+    ensures { three result ≡ wanted_in 1 3 s.now }
 {
     let ReadField::Number(first, end) = next_field(s, 1) else {
         return Three::FailsAt(1);
@@ -153,7 +153,7 @@ fn three_fields(s: &[u8]) -> Three
 
 // Four of them.
 fn four_fields(s: &[u8]) -> Four
-    ensures { four result ≡ wantedIn 1 4 s.now }
+    ensures { four result ≡ wanted_in 1 4 s.now }
 {
     let ReadField::Number(first, end) = next_field(s, 1) else {
         return Four::FailsAt(1);
@@ -174,7 +174,7 @@ fn four_fields(s: &[u8]) -> Four
 
 // deposit: number, asset, amount, member.
 fn read_deposit(s: &[u8]) -> Line
-    ensures { result ≡ formed depositForm (wantedIn 1 4 s.now) }
+    ensures { result ≡ formed deposit_form (wanted_in 1 4 s.now) }
 {
     match four_fields(s) {
         Four::Numbers(n, asset, amount, member) => {
@@ -192,7 +192,7 @@ fn read_deposit(s: &[u8]) -> Line
 
 // claim: member, number, asset, amount.
 fn read_claim(s: &[u8]) -> Line
-    ensures { result ≡ formed claimForm (wantedIn 1 4 s.now) }
+    ensures { result ≡ formed claim_form (wanted_in 1 4 s.now) }
 {
     match four_fields(s) {
         Four::Numbers(member, n, asset, amount) => {
@@ -210,7 +210,7 @@ fn read_claim(s: &[u8]) -> Line
 
 // transfer: from, to, asset, amount.
 fn read_transfer(s: &[u8]) -> Line
-    ensures { result ≡ formed transferForm (wantedIn 1 4 s.now) }
+    ensures { result ≡ formed transfer_form (wanted_in 1 4 s.now) }
 {
     match four_fields(s) {
         Four::Numbers(from, to, asset, amount) => Line::Reads(Call::Transfer(TransferFields {
@@ -225,7 +225,7 @@ fn read_transfer(s: &[u8]) -> Line
 
 // withdraw: member, asset, amount, payee.
 fn read_withdraw(s: &[u8]) -> Line
-    ensures { result ≡ formed withdrawForm (wantedIn 1 4 s.now) }
+    ensures { result ≡ formed withdraw_form (wanted_in 1 4 s.now) }
 {
     match four_fields(s) {
         Four::Numbers(member, asset, amount, payee) => Line::Reads(Call::Withdraw(
@@ -242,7 +242,7 @@ fn read_withdraw(s: &[u8]) -> Line
 
 // send: the word alone.
 fn read_send(s: &[u8]) -> Line
-    ensures { result ≡ formed sendForm (wantedIn 1 0 s.now) }
+    ensures { result ≡ formed send_form (wanted_in 1 0 s.now) }
 {
     if 0 < s.len() {
         return Line::Malformed(1);
@@ -252,7 +252,7 @@ fn read_send(s: &[u8]) -> Line
 
 // settle: nonce.
 fn read_settle(s: &[u8]) -> Line
-    ensures { result ≡ formed settleForm (wantedIn 1 1 s.now) }
+    ensures { result ≡ formed settle_form (wanted_in 1 1 s.now) }
 {
     match last_field(s, 1) {
         Field::Number(n) => Line::Reads(Call::Settle(Nonce(n))),
@@ -262,7 +262,7 @@ fn read_settle(s: &[u8]) -> Line
 
 // grant: from, to, domain.
 fn read_grant(s: &[u8]) -> Line
-    ensures { result ≡ formed grantForm (wantedIn 1 3 s.now) }
+    ensures { result ≡ formed grant_form (wanted_in 1 3 s.now) }
 {
     match three_fields(s) {
         Three::Numbers(from, to, domain) => Line::Reads(Call::Grant(GrantFields {
@@ -276,7 +276,7 @@ fn read_grant(s: &[u8]) -> Line
 
 // sign: member, domain.
 fn read_sign(s: &[u8]) -> Line
-    ensures { result ≡ formed signForm (wantedIn 1 2 s.now) }
+    ensures { result ≡ formed sign_form (wanted_in 1 2 s.now) }
 {
     match two_fields(s) {
         Two::Numbers(member, domain) => Line::Reads(Call::Sign(SignFields { member, domain })),
@@ -286,7 +286,7 @@ fn read_sign(s: &[u8]) -> Line
 
 // trace: nonce.
 fn read_trace(s: &[u8]) -> Line
-    ensures { result ≡ formed traceForm (wantedIn 1 1 s.now) }
+    ensures { result ≡ formed trace_form (wanted_in 1 1 s.now) }
 {
     match last_field(s, 1) {
         Field::Number(n) => Line::Reads(Call::Trace(Nonce(n))),

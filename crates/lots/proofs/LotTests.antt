@@ -8,13 +8,13 @@ use Rattle.rules.specs.declared.rows.Record.{Record}
 use Rattle.rules.specs.declared.rows.Lot.{Lot}
 use Rattle.rules.specs.Lists.{all}
 use Rattle.rules.specs.History.{Kind}
-use Rattle.rules.specs.Lots.{ofAmount, ofMember, takenBy, leftBy, lotOf, lotsAs}
+use Rattle.rules.specs.Lots.{of_amount, of_member, taken_by, left_by, lot_of, lots_as}
 use Rattle.rules.proofs.Digits.{all_append}
 use Rattle.lots.proofs.ListLaws.{all_map}
 use Rattle.lots.proofs.Taking.{Takes, takes}
 
 -- a test that a split keeps
-module _ (q : Lot → Bool) (part : (l : Lot) (x : ℕ) → 1 ≤ x → q l ≡ true → q (ofAmount x l) ≡ true) where
+module _ (q : Lot → Bool) (part : (l : Lot) (x : ℕ) → 1 ≤ x → q l ≡ true → q (of_amount x l) ≡ true) where
   -- every piece passes it where every lot does
   pub takes_all : {m a x : ℕ} {ls ps rest : List Lot} → Takes m a x ls ps rest → all q ls ≡ true → all q ps ≡ true
   unfolding all
@@ -29,26 +29,26 @@ module _ (q : Lot → Bool) (part : (l : Lot) (x : ℕ) → 1 ≤ x → q l ≡ 
   takes_all (Takes.other {l = l} {ls = ls} f p t) h = takes_all t ((and-eq-true_iff (q l) (all q ls)).0 h).1
 
   -- and so does every lot that is left
-  pub takes-all-left : {m a x : ℕ} {ls ps rest : List Lot} → Takes m a x ls ps rest → all q ls ≡ true → all q rest ≡ true
+  pub takes_all-left : {m a x : ℕ} {ls ps rest : List Lot} → Takes m a x ls ps rest → all q ls ≡ true → all q rest ≡ true
   unfolding all
-  takes-all-left Takes.ended h = refl
-  takes-all-left Takes.met h = h
-  takes-all-left (Takes.whole {l = l} {ls = ls} f g p t) h = takes-all-left t ((and-eq-true_iff (q l) (all q ls)).0 h).1
-  takes-all-left (Takes.split {x = x} {l = l} {ls = ls} f g p) h =
+  takes_all-left Takes.ended h = refl
+  takes_all-left Takes.met h = h
+  takes_all-left (Takes.whole {l = l} {ls = ls} f g p t) h = takes_all-left t ((and-eq-true_iff (q l) (all q ls)).0 h).1
+  takes_all-left (Takes.split {x = x} {l = l} {ls = ls} f g p) h =
       let (u, v) = (and-eq-true_iff (q l) (all q ls)).0 h in
       rw (part l (l.amount - x) (omega arith) u) v
-  takes-all-left (Takes.other {l = l} {ls = ls} f p t) h =
+  takes_all-left (Takes.other {l = l} {ls = ls} f p t) h =
       let (u, v) = (and-eq-true_iff (q l) (all q ls)).0 h in
-      rw u (takes-all-left t v)
+      rw u (takes_all-left t v)
 
   -- a new owner keeps it too: then every lot after a record passes it, where every lot before did and a claim's lot does
-  pub lots-all : ((l : Lot) (m : ℕ) → q l ≡ true → q (ofMember m l) ≡ true) → (k : Kind) (ls : List Lot) (r : Record) → all q ls ≡ true → (k ≡ Kind.claim → q (lotOf r) ≡ true) → all q (lotsAs k ls r) ≡ true
-  unfolding lotsAs
-  lots-all moved Kind.claim ls r h c = rw (all_append q ls (lotOf r ∷ []), h) (unfold all in rw (c refl))
+  pub lots-all : ((l : Lot) (m : ℕ) → q l ≡ true → q (of_member m l) ≡ true) → (k : Kind) (ls : List Lot) (r : Record) → all q ls ≡ true → (k ≡ Kind.claim → q (lot_of r) ≡ true) → all q (lots_as k ls r) ≡ true
+  unfolding lots_as
+  lots-all moved Kind.claim ls r h c = rw (all_append q ls (lot_of r ∷ []), h) (unfold all in rw (c refl))
   lots-all moved Kind.transfer ls r h c =
       let t = takes r.first r.asset r.amount ls in
-      rw (all_append q (leftBy r ls) (map (ofMember r.second) (takenBy r ls)), takes-all-left t h)
-      (all_map q q (ofMember r.second) (λ l. moved l r.second) (takenBy r ls) (takes_all t h))
-  lots-all moved Kind.withdrawal ls r h c = takes-all-left (takes r.first r.asset r.amount ls) h
+      rw (all_append q (left_by r ls) (map (of_member r.second) (taken_by r ls)), takes_all-left t h)
+      (all_map q q (of_member r.second) (λ l. moved l r.second) (taken_by r ls) (takes_all t h))
+  lots-all moved Kind.withdrawal ls r h c = takes_all-left (takes r.first r.asset r.amount ls) h
   lots-all moved Kind.grant ls r h c = h
   lots-all moved Kind.other ls r h c = h

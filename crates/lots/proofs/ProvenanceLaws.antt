@@ -6,20 +6,20 @@ use native.Mathlib.Omega.{arith}
 use lib.ListN.{length, length-append, get_or-append}
 use lib.Seq.{get_or-append_seam}
 use Rattle.rules.specs.declared.rows.Record.{Record}
-use Rattle.rules.specs.Tables.{noRecord}
-use Rattle.rules.specs.History.{counted, provenance, provenanceOf}
+use Rattle.rules.specs.Tables.{no_record}
+use Rattle.rules.specs.History.{counted, provenance, provenance_of}
 
 -- of the first records only those count
-provenance-front : (m a k : ℕ) (h t : List Record) → k ≤ length h → provenance m a k (h ++ t) ≡ provenance m a k h
+provenance_front : (m a k : ℕ) (h t : List Record) → k ≤ length h → provenance m a k (h ++ t) ≡ provenance m a k h
 unfolding provenance
-provenance-front m a zero h t l = refl
-provenance-front m a (suc k) h t l =
-    rw (get_or-append h t noRecord k l, provenance-front m a k h t (omega arith))
+provenance_front m a zero h t l = refl
+provenance_front m a (suc k) h t l =
+    rw (get_or-append h t no_record k l, provenance_front m a k h t (omega arith))
 
 -- the last record counts on what those before it gave
-pub provenance-last : (m a : ℕ) (h : List Record) (r : Record) → provenanceOf m a (h ++ (r ∷ [])) ≡ counted m a r (provenanceOf m a h)
+pub provenance-last : (m a : ℕ) (h : List Record) (r : Record) → provenance_of m a (h ++ (r ∷ [])) ≡ counted m a r (provenance_of m a h)
 unfolding provenance
 provenance-last m a h r =
     let e : length (h ++ (r ∷ [])) ≡ suc (length h) = length-append h (r ∷ []) ∙ omega arith in
     ap (λ (k : ℕ). provenance m a k (h ++ (r ∷ []))) e
-    ∙ ap₂ (counted m a) (get_or-append_seam h r [] noRecord) (provenance-front m a (length h) h (r ∷ []) (omega arith))
+    ∙ ap₂ (counted m a) (get_or-append_seam h r [] no_record) (provenance_front m a (length h) h (r ∷ []) (omega arith))

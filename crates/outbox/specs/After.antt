@@ -5,29 +5,29 @@ use Rattle.rules.specs.declared.rows.Payment.{Payment}
 use Rattle.rules.specs.declared.calls.WithdrawalFields.{WithdrawalFields}
 use Rattle.rules.specs.Limits.{ceiling}
 use Rattle.rules.specs.Lists.{all}
-use Rattle.rules.specs.Frame.{upToCeiling}
+use Rattle.rules.specs.Frame.{up_to_ceiling}
 use Rattle.rules.specs.Effects.{balance, debit, raised}
 use Rattle.rules.specs.Facts.{Within}
-use Rattle.desk.specs.Kept.{deskWith, with_next, withRows}
+use Rattle.desk.specs.Kept.{desk_with, with_next, with_rows}
 
 -- the payment whose four numbers lie in a table from a place on
-abbrev pub paymentAt : List ℕ → ℕ → Payment
-paymentAt t at = record { asset = get_or t at 0; amount = get_or t (at + 1) 0; payee = get_or t (at + 2) 0; nonce = record { 0 = get_or t (at + 3) 0 } }
+abbrev pub payment_at : List ℕ → ℕ → Payment
+payment_at t at = record { asset = get_or t at 0; amount = get_or t (at + 1) 0; payee = get_or t (at + 2) 0; nonce = record { 0 = get_or t (at + 3) 0 } }
 
-unfoldable pub withdrawnDesk : Desk → WithdrawalFields → Desk
-withdrawnDesk d w =
-    deskWith (debit d.balances w.member w.asset w.amount) d.holders d.lifetime d.settled
-    (with_next (withRows d.counts d.counts.unclaimed (d.counts.payments + 1) d.counts.inflight (d.counts.records + 1)) (record { 0 = d.counts.next.0 + 1 }))
+unfoldable pub withdrawn_desk : Desk → WithdrawalFields → Desk
+withdrawn_desk d w =
+    desk_with (debit d.balances w.member w.asset w.amount) d.holders d.lifetime d.settled
+    (with_next (with_rows d.counts d.counts.unclaimed (d.counts.payments + 1) d.counts.inflight (d.counts.records + 1)) (record { 0 = d.counts.next.0 + 1 }))
 
-abbrev pub sentDesk : Desk → Desk
-sentDesk d =
-    deskWith d.balances d.holders d.lifetime d.settled
-    (withRows d.counts d.counts.unclaimed d.counts.payments (d.counts.inflight + 1) d.counts.records)
+abbrev pub sent_desk : Desk → Desk
+sent_desk d =
+    desk_with d.balances d.holders d.lifetime d.settled
+    (with_rows d.counts d.counts.unclaimed d.counts.payments (d.counts.inflight + 1) d.counts.records)
 
-unfoldable pub settledDesk : Desk → Payment → Desk
-settledDesk d p =
-    deskWith d.balances d.holders d.lifetime (raised d.settled p.asset p.amount)
-    (withRows d.counts d.counts.unclaimed (d.counts.payments - 1) (d.counts.inflight - 1) d.counts.records)
+unfoldable pub settled_desk : Desk → Payment → Desk
+settled_desk d p =
+    desk_with d.balances d.holders d.lifetime (raised d.settled p.asset p.amount)
+    (with_rows d.counts d.counts.unclaimed (d.counts.payments - 1) (d.counts.inflight - 1) d.counts.records)
 
 -- what makes a withdrawal safe to do: it was not refused
 pub record CanWithdraw (d : Desk) (w : WithdrawalFields) : Type 0 where
@@ -42,7 +42,7 @@ pub record CanWithdraw (d : Desk) (w : WithdrawalFields) : Type 0 where
 pub record CanSettle (d : Desk) (p : Payment) : Type 0 where
   pub asset : Within 1 8 p.asset
   pub amount : p.amount ≤ ceiling
-  pub settled : all upToCeiling d.settled ≡ true
+  pub settled : all up_to_ceiling d.settled ≡ true
   pub payments : d.counts.payments ≤ 32
   pub inflight : d.counts.inflight ≤ d.counts.payments
   pub some : 1 ≤ d.counts.inflight

@@ -4,14 +4,14 @@
 ghost use Rattle.std.specs.Prelude.{◌≡◌, ◌-◌, ◌*◌, ◌≤◌, length, get_or};
 ghost use Rattle.rules.specs.declared.calls.Call.{Call};
 ghost use Rattle.rules.specs.Facts.{Accepted};
-ghost use Rattle.rules.specs.Limits.{outboxRows};
-ghost use Rattle.rules.specs.Tables.{paymentShape};
+ghost use Rattle.rules.specs.Limits.{outbox_rows};
+ghost use Rattle.rules.specs.Tables.{payment_shape};
 ghost use Rattle.rules.specs.State.{State, payments as paymentsOf};
 ghost use Rattle.rules.specs.Replies.{told, plain, smallest};
 ghost use Rattle.rules.specs.Refusals.{table};
 ghost use Rattle.rules.specs.Effects.{oldest};
-ghost use Rattle.rules.specs.Answer.{answer, bookOf, outcomeOf};
-ghost use Rattle.outbox.specs.After.{CanWithdraw, CanSettle, paymentAt, withdrawnDesk, settledDesk};
+ghost use Rattle.rules.specs.Answer.{answer, book_of, outcome_of};
+ghost use Rattle.outbox.specs.After.{CanWithdraw, CanSettle, payment_at, withdrawn_desk, settled_desk};
 
 use desk::answers::{is_done, refuse};
 use desk::entries::withdrawal_record;
@@ -35,7 +35,7 @@ pub fn withdraw(
     history: &mut [u64],
     w: WithdrawalFields,
 ) -> Answered
-    ensures { outcomeOf result inbox.now outbox.new history.new ≡ answer (bookOf d inbox.now outbox.old history.old) (Call.Withdraw w) }
+    ensures { outcome_of result inbox.now outbox.new history.new ≡ answer (book_of d inbox.now outbox.old history.old) (Call.Withdraw w) }
 {
     let is_framed = framed(d, inbox, outbox, history);
     let own = withdraw_reply(&d.balances, d.counts.payments, d.counts.records, w);
@@ -57,8 +57,8 @@ pub fn withdraw_done(
     history: &mut [u64],
     w: WithdrawalFields,
 ) -> Answered
-    requires { Accepted (bookOf d inbox.now outbox.old history.old) (Call.Withdraw w) }
-    ensures { outcomeOf result inbox.now outbox.new history.new ≡ answer (bookOf d inbox.now outbox.old history.old) (Call.Withdraw w) }
+    requires { Accepted (book_of d inbox.now outbox.old history.old) (Call.Withdraw w) }
+    ensures { outcome_of result inbox.now outbox.new history.new ≡ answer (book_of d inbox.now outbox.old history.old) (Call.Withdraw w) }
 {
     let counts = d.counts;
     let nonce = counts.next;
@@ -104,7 +104,7 @@ pub fn withdraw_reply(
 // The balance falls, "the next nonce rises by 1", and there is one payment and one record more.
 fn withdrawn(d: Desk, w: WithdrawalFields) -> Desk
     requires { CanWithdraw d w }
-    ensures { result ≡ withdrawnDesk d w }
+    ensures { result ≡ withdrawn_desk d w }
 {
     let mut after = d;
     let held = balance_of(&after.balances, w.member, w.asset);
@@ -124,7 +124,7 @@ fn withdrawn(d: Desk, w: WithdrawalFields) -> Desk
 // Send: "the oldest waiting payment becomes in flight; the answer gives nonce, asset, amount, payee.
 // It keeps its outbox row." So no table is lent to be written.
 pub fn send(d: Desk, inbox: &[u64], outbox: &[u64], history: &[u64]) -> Answered
-    ensures { outcomeOf result inbox.now outbox.now history.now ≡ answer (bookOf d inbox.now outbox.now history.now) Call.Send }
+    ensures { outcome_of result inbox.now outbox.now history.now ≡ answer (book_of d inbox.now outbox.now history.now) Call.Send }
 {
     let is_framed = framed(d, inbox, outbox, history);
     let waiting = count_waiting(d.counts.payments, d.counts.inflight);
@@ -141,8 +141,8 @@ pub fn send(d: Desk, inbox: &[u64], outbox: &[u64], history: &[u64]) -> Answered
 
 // Where nothing is refused.
 pub fn send_done(d: Desk, inbox: &[u64], outbox: &[u64], history: &[u64]) -> Answered
-    requires { Accepted (bookOf d inbox.now outbox.now history.now) Call.Send }
-    ensures { outcomeOf result inbox.now outbox.now history.now ≡ answer (bookOf d inbox.now outbox.now history.now) Call.Send }
+    requires { Accepted (book_of d inbox.now outbox.now history.now) Call.Send }
+    ensures { outcome_of result inbox.now outbox.now history.now ≡ answer (book_of d inbox.now outbox.now history.now) Call.Send }
 {
     let at = d.counts.inflight * PAYMENT_WIDTH;
     let payment = payment_at(outbox, at);
@@ -177,7 +177,7 @@ pub fn send_reply(waiting: usize) -> Answer
 // Settle (nonce): the oldest payment in flight "leaves the outbox and the asset's settled total
 // grows". A nonce is asked for, so no deposit number can be settled.
 pub fn settle(d: Desk, inbox: &[u64], outbox: &mut [u64], history: &[u64], n: Nonce) -> Answered
-    ensures { outcomeOf result inbox.now outbox.new history.now ≡ answer (bookOf d inbox.now outbox.old history.now) (Call.Settle n) }
+    ensures { outcome_of result inbox.now outbox.new history.now ≡ answer (book_of d inbox.now outbox.old history.now) (Call.Settle n) }
 {
     let is_framed = framed(d, inbox, outbox, history);
     let due = first_nonce(outbox);
@@ -200,8 +200,8 @@ pub fn settle_done(
     history: &[u64],
     n: Nonce,
 ) -> Answered
-    requires { Accepted (bookOf d inbox.now outbox.old history.now) (Call.Settle n) }
-    ensures { outcomeOf result inbox.now outbox.new history.now ≡ answer (bookOf d inbox.now outbox.old history.now) (Call.Settle n) }
+    requires { Accepted (book_of d inbox.now outbox.old history.now) (Call.Settle n) }
+    ensures { outcome_of result inbox.now outbox.new history.now ≡ answer (book_of d inbox.now outbox.old history.now) (Call.Settle n) }
 {
     let payment = payment_at(outbox, 0);
     take_out(outbox, PAYMENT_WIDTH, 0, d.counts.payments);
@@ -214,7 +214,7 @@ pub fn settle_done(
 
 // The nonce of the outbox's first row, and 0 where there is none.
 pub fn first_nonce(outbox: &[u64]) -> Nonce
-    ensures { result ≡ (paymentAt outbox.now 0).nonce }
+    ensures { result ≡ (payment_at outbox.now 0).nonce }
 {
     Nonce(number_at(outbox, 3))
 }
@@ -235,7 +235,7 @@ pub fn settle_reply(inflight: usize, due: Nonce, n: Nonce) -> Answer
 // was in flight.
 fn settled(d: Desk, p: Payment) -> Desk
     requires { CanSettle d p }
-    ensures { result ≡ settledDesk d p }
+    ensures { result ≡ settled_desk d p }
 {
     let mut after = d;
     let more = of_eight(&after.settled, p.asset) + p.amount;
@@ -249,8 +249,8 @@ fn settled(d: Desk, p: Payment) -> Desk
 
 // The payment whose four numbers lie from a place on.
 fn payment_at(t: &[u64], at: usize) -> Payment
-    requires { at ≤ outboxRows * paymentShape.width }
-    ensures { result ≡ paymentAt t.now at }
+    requires { at ≤ outbox_rows * payment_shape.width }
+    ensures { result ≡ payment_at t.now at }
 {
     let asset = number_at(t, at);
     let amount = number_at(t, at + 1);

@@ -15,24 +15,24 @@ use Rattle.pages.specs.contracts.put_value as put-value
 use Rattle.pages.specs.contracts.put_line_feed as put-line-feed
 
 -- ---- the place and every byte of the buffer, whatever is written
-pub page-once : (y : Page) {r r' : ℕ} {o o' : List ℕ} → page o r ≡ y → page o' r' ≡ y → (r ≡ r') × (o ≡ o')
-page-once y p q = (ap upto (once y p q), ap bytes (once y p q))
+pub page_once : (y : Page) {r r' : ℕ} {o o' : List ℕ} → page o r ≡ y → page o' r' ≡ y → (r ≡ r') × (o ≡ o')
+page_once y p q = (ap upto (once y p q), ap bytes (once y p q))
 
 -- of a function that is lent the buffer first and answers the place
 pub written : (w : World) {L : Type 0} {y : Page} {r r' : ℕ} {o o' : List ℕ} {l : L} → Both w (page o r ≡ y) (page o' r' ≡ y) ((r ≡ r') × (◌≡◌ {A = List ℕ × L} (o, l) (o', l)))
-written w {l = l} = both w (λ p q. let e = page-once _ p q in (e.0, λ j. (e.1 j, l)))
+written w {l = l} = both w (λ p q. let e = page_once _ p q in (e.0, λ j. (e.1 j, l)))
 
-pub put-byte-once : Coincide put_byte.ended (λ M 𝓤. put_byte.clauses 𝓤)
-put-byte-once w x g = written w
+pub put_byte_once : Coincide put_byte.ended (λ M 𝓤. put_byte.clauses 𝓤)
+put_byte_once w x g = written w
 
-pub put-bytes-once : Coincide put-bytes.ended (λ M 𝓤. put-bytes.clauses 𝓤)
-put-bytes-once w x g = written w
+pub put_bytes_once : Coincide put-bytes.ended (λ M 𝓤. put-bytes.clauses 𝓤)
+put_bytes_once w x g = written w
 
-pub put-decimal-once : Coincide put-decimal.ended (λ M 𝓤. put-decimal.clauses 𝓤)
-put-decimal-once w x g = written w
+pub put_decimal_once : Coincide put-decimal.ended (λ M 𝓤. put-decimal.clauses 𝓤)
+put_decimal_once w x g = written w
 
-pub put-value-once : Coincide put-value.ended (λ M 𝓤. put-value.clauses 𝓤)
-put-value-once w x g = written w
+pub put_value_once : Coincide put-value.ended (λ M 𝓤. put-value.clauses 𝓤)
+put_value_once w x g = written w
 
-pub put-line-feed-once : Coincide put-line-feed.ended (λ M 𝓤. put-line-feed.clauses 𝓤)
-put-line-feed-once w x g = written w
+pub put_line_feed_once : Coincide put-line-feed.ended (λ M 𝓤. put-line-feed.clauses 𝓤)
+put_line_feed_once w x g = written w

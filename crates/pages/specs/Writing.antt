@@ -10,13 +10,13 @@ abbrev pub page : List ℕ → ℕ → Page
 page out at = record { bytes = out; upto = at }
 
 -- one byte more, if there is room for it; past the end `set` changes nothing
-unfoldable pub putByte : Page → ℕ → Page
-putByte p b = page (set p.bytes p.upto b) (cond (ltb p.upto (length p.bytes)) (p.upto + 1) p.upto)
+unfoldable pub put_byte : Page → ℕ → Page
+put_byte p b = page (set p.bytes p.upto b) (cond (ltb p.upto (length p.bytes)) (p.upto + 1) p.upto)
 
 -- a text, byte after byte
 unfoldable pub put : Page → List ℕ → Page
 put p [] = p
-put p (b ∷ bs) = put (putByte p b) bs
+put p (b ∷ bs) = put (put_byte p b) bs
 
 -- a text that lies in a list from a place on
 abbrev pub laid : List ℕ → ℕ → List ℕ → List ℕ

@@ -2,7 +2,7 @@
 // what it wrote. Where the buffer ends, what has no room is left out; a caller that has room for the
 // whole of it finds the whole of it (proofs/PageLaws.antt, `put_whole`).
 ghost use Rattle.std.specs.Prelude.{◌+◌, ◌≤◌, ◌≡◌, [], ◌∷◌, length};
-ghost use Rattle.rules.specs.Lines.{lineFeed, decimal, tabbed};
+ghost use Rattle.rules.specs.Lines.{line_feed, decimal, tabbed};
 ghost use Rattle.pages.specs.Writing.{page, put, laid};
 
 pub fn put_byte(out: &mut [u8], at: usize, b: u8) -> usize
@@ -87,7 +87,7 @@ pub fn put_value(out: &mut [u8], at: usize, n: u64) -> usize
 }
 
 pub fn put_line_feed(out: &mut [u8], at: usize) -> usize
-    ensures { page out.new result ≡ put (page out.old at) (lineFeed ∷ []) }
+    ensures { page out.new result ≡ put (page out.old at) (line_feed ∷ []) }
 {
     put_byte(out, at, 10)
 }

@@ -7,12 +7,12 @@ use native.Mathlib.Omega.{arith}
 use lib.IntN.{ℤ, pos, negsuc}
 use lib.ListN.{length}
 use lib.Signed.{lt_z, non_neg}
-use Rattle.rules.specs.Limits.{mostHeld}
+use Rattle.rules.specs.Limits.{most_held}
 use Rattle.rules.specs.declared.answers.Tally.{Tally}
 use Rattle.runner.specs.declared.feed.Feeding.{Feeding}
 use Rattle.runner.specs.Feeding.{Ready, Begun}
 
-pub begun-ready : (f : Feeding) (hold : List ℕ) → Begun f → length hold ≡ mostHeld → Ready f hold
+pub begun-ready : (f : Feeding) (hold : List ℕ) → Begun f → length hold ≡ most_held → Ready f hold
 begun-ready f hold b l =
     let d : f.running.tally.done ≡ 0 = ap (λ (t : Tally). t.done) b.tally in
     let o : f.running.tally.other ≡ 0 = ap (λ (t : Tally). t.other) b.tally in
@@ -24,6 +24,6 @@ begun-ready f hold b l =
     }
 
 -- the system's answer is no failure
-pub went-well : (got : ℤ) → lt_z got (pos 0) ≡ false → non_neg got ≡ true
-went-well (pos n) e = refl
-went-well (negsuc n) e = absurd (false≢true (sym e))
+pub went_well : (got : ℤ) → lt_z got (pos 0) ≡ false → non_neg got ≡ true
+went_well (pos n) e = refl
+went_well (negsuc n) e = absurd (false≢true (sym e))

@@ -3,8 +3,8 @@
 // stop.
 ghost use Rattle.std.specs.Prelude.{◌≡◌, length, true};
 ghost use Rattle.std.specs.Int.Signed.{non_neg};
-ghost use Rattle.rules.specs.Limits.{mostHeld};
-ghost use Rattle.runner.specs.Feeding.{fedMachine, Ready};
+ghost use Rattle.rules.specs.Limits.{most_held};
+ghost use Rattle.runner.specs.Feeding.{fed_machine, Ready};
 ghost use Rattle.libc.specs.Io.{Moved};
 ghost use Rattle.program.specs.Turns.{given, Answers};
 
@@ -58,7 +58,7 @@ fn session(
     input: &mut [u8],
     out: &mut [u8],
 )
-    requires hold_len { length hold.old ≡ mostHeld }
+    requires hold_len { length hold.old ≡ most_held }
     requires out_len { length out.old ≡ 65536 }
 {
     let feeding = start();
@@ -97,7 +97,7 @@ fn read_once(
     ensures ready_2 { Ready result.turn.feeding hold.new }
     ensures at_value_2 { result.turn.feeding.at ≡ 0 }
     ensures moved { Moved (length input.old) result.got }
-    ensures answers { Answers (given result.got input.new) (fedMachine f inbox.old outbox.old history.old hold.old) (fedMachine result.turn.feeding inbox.new outbox.new history.new hold.new) result.turn }
+    ensures answers { Answers (given result.got input.new) (fed_machine f inbox.old outbox.old history.old hold.old) (fed_machine result.turn.feeding inbox.new outbox.new history.new hold.new) result.turn }
     ensures got_value { result.turn.whole ≡ true → non_neg result.got ≡ true }
 {
     let got = libc::read(fd, input);
@@ -122,7 +122,7 @@ fn answer_given(
     requires out_len { length out.old ≡ 65536 }
     ensures ready_2 { Ready result.feeding hold.new }
     ensures at_value_2 { result.feeding.at ≡ 0 }
-    ensures answers { Answers (given got input.now) (fedMachine f inbox.old outbox.old history.old hold.old) (fedMachine result.feeding inbox.new outbox.new history.new hold.new) result }
+    ensures answers { Answers (given got input.now) (fed_machine f inbox.old outbox.old history.old hold.old) (fed_machine result.feeding inbox.new outbox.new history.new hold.new) result }
     ensures got_value { result.whole ≡ true → non_neg got ≡ true }
 {
     if got < 0 {
@@ -161,7 +161,7 @@ fn answer_read(
     requires out_len { length out.old ≡ 65536 }
     ensures ready_2 { Ready result.feeding hold.new }
     ensures at_value_2 { result.feeding.at ≡ 0 }
-    ensures answers { Answers chunk.now (fedMachine f inbox.old outbox.old history.old hold.old) (fedMachine result.feeding inbox.new outbox.new history.new hold.new) result }
+    ensures answers { Answers chunk.now (fed_machine f inbox.old outbox.old history.old hold.old) (fed_machine result.feeding inbox.new outbox.new history.new hold.new) result }
 {
     let mut g = f;
     let mut from: usize = 0;

@@ -5,4 +5,4 @@ use Rattle.promises.proofs.MemberReplies.{member-told, member-answered, member-a
 
 -- the whole of demand 3
 pub demand3 : Demand3
-demand3 = record { outside = outside_told; agreed = outside-agreed; member = member-told; next = member-answered; nextWithRoom = member-answered-with-room }
+demand3 = record { outside = outside_told; agreed = outside-agreed; member = member-told; next = member-answered; next_with_room = member-answered-with-room }

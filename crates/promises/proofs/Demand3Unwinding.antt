@@ -7,16 +7,16 @@ use Rattle.rules.specs.Lists.{those, joined}
 use Rattle.rules.specs.State.{State, Book, view}
 use Rattle.rules.specs.Effects.{effect}
 use Rattle.rules.specs.Runs.{run, gather, itself, accepted}
-use Rattle.rules.proofs.Laying.{joined-append}
+use Rattle.rules.proofs.Laying.{joined_append}
 use Rattle.rules.specs.Facts.{Accepted}
-use Rattle.promises.proofs.Base.{run-keeps}
+use Rattle.promises.proofs.Base.{run_keeps}
 
 -- ---- lists of what is seen
 -- those that pass a test are what each shows of itself, one after the other
-pub those-joined : {A : Type 0} (p : A → Bool) (xs : List A) → those p xs ≡ joined (λ x. those p (x ∷ [])) xs
+pub those_joined : {A : Type 0} (p : A → Bool) (xs : List A) → those p xs ≡ joined (λ x. those p (x ∷ [])) xs
 unfolding those joined
-those-joined p [] = refl
-those-joined p (x ∷ xs) = go (p x) (those-joined p xs)
+those_joined p [] = refl
+those_joined p (x ∷ xs) = go (p x) (those_joined p xs)
   where
     go : (t : Bool) → those p xs ≡ joined (λ y. those p (y ∷ [])) xs → cond t (x ∷ those p xs) (those p xs) ≡ cond t (x ∷ []) [] ++ joined (λ y. those p (y ∷ [])) xs
     go true ih = ap (λ r. x ∷ r) ih
@@ -25,40 +25,40 @@ those-joined p (x ∷ xs) = go (p x) (those-joined p xs)
 -- ---- a machine: each thing seen moves the view, and shows something on the way
 module _ {S W A : Type 0} (moved : W → S → W) (shown : W → S → List A) where
   -- all that a list of things shows
-  unfoldable pub shownBy : W → List S → List A
-  shownBy v [] = []
-  shownBy v (x ∷ xs) = shown v x ++ shownBy (moved v x) xs
+  unfoldable pub shown_by : W → List S → List A
+  shown_by v [] = []
+  shown_by v (x ∷ xs) = shown v x ++ shown_by (moved v x) xs
 
   -- more things show more, from the view that those before them lead to
-  shown-append : (v : W) (xs ys : List S) → shownBy v (xs ++ ys) ≡ shownBy v xs ++ shownBy (foldl moved v xs) ys
-  unfolding shownBy
-  shown-append v [] ys = refl
-  shown-append v (x ∷ xs) ys = rw (shown-append (moved v x) xs ys, append_assoc)
+  shown_append : (v : W) (xs ys : List S) → shown_by v (xs ++ ys) ≡ shown_by v xs ++ shown_by (foldl moved v xs) ys
+  unfolding shown_by
+  shown_append v [] ys = refl
+  shown_append v (x ∷ xs) ys = rw (shown_append (moved v x) xs ys, append_assoc)
 
 -- ---- a run that follows a machine
 module _ {S W A : Type 0} (see : Call → List S) (look : State → W) (out : Book → Call → List A) (moved : W → S → W) (shown : W → S → List A)
     (moves : (b : Book) (c : Call) → Accepted b c → look (effect c (view b)) ≡ foldl moved (look (view b)) (see c))
-    (shows : (b : Book) (c : Call) → Accepted b c → out b c ≡ shownBy moved shown (look (view b)) (see c)) where
+    (shows : (b : Book) (c : Call) → Accepted b c → out b c ≡ shown_by moved shown (look (view b)) (see c)) where
   -- after these accepted calls, which left this behind, the state stands where the machine does
   record Follows (v : W) (xs : List Call) (ys : List A) (s : State) : Type 0 where
     stands : look s ≡ foldl moved v (joined see xs)
-    left : ys ≡ shownBy moved shown v (joined see xs)
+    left : ys ≡ shown_by moved shown v (joined see xs)
 
   -- one accepted call more
   follows_on : (v : W) (xs : List Call) (ys : List A) (b : Book) (c : Call) → Accepted b c → Follows v xs ys (view b)
       → Follows v (xs ++ (c ∷ [])) (ys ++ out b c) (effect c (view b))
   unfolding joined
   follows_on v xs ys b c a f =
-      let more : joined see (xs ++ (c ∷ [])) ≡ joined see xs ++ see c = joined-append see xs (c ∷ []) ∙ ap (λ (r : List S). joined see xs ++ r) (append-nil (see c)) in
+      let more : joined see (xs ++ (c ∷ [])) ≡ joined see xs ++ see c = joined_append see xs (c ∷ []) ∙ ap (λ (r : List S). joined see xs ++ r) (append-nil (see c)) in
       record {
         stands = rw (more, foldl-append moved v (joined see xs) (see c), moves b c a, f.stands);
-        left = rw (more, shown-append moved shown v (joined see xs) (see c), shows b c a, f.stands, f.left);
+        left = rw (more, shown_append moved shown v (joined see xs) (see c), shows b c a, f.stands, f.left);
       }
 
   -- every run does
   follows : (b : Book) (cs : List Call) → Follows (look (view b)) (accepted b cs) (gather out b cs) (view (run b cs))
-  unfolding joined shownBy
-  follows b cs = run-keeps itself out (Follows (look (view b))) (follows_on (look (view b))) b cs (record { stands = refl; left = refl })
+  unfolding joined shown_by
+  follows b cs = run_keeps itself out (Follows (look (view b))) (follows_on (look (view b))) b cs (record { stands = refl; left = refl })
 
   -- two runs that start alike and show alike end alike, and leave alike behind
   pub unwound : (b b' : Book) (cs cs' : List Call) → look (view b) ≡ look (view b') → joined see (accepted b cs) ≡ joined see (accepted b' cs')
@@ -66,4 +66,4 @@ module _ {S W A : Type 0} (see : Call → List S) (look : State → W) (out : Bo
   unwound b b' cs cs' start alike =
       let f = follows b cs in
       let f' = follows b' cs' in
-      (f.stands ∙ ap₂ (foldl moved) start alike ∙ sym f'.stands, f.left ∙ ap₂ (shownBy moved shown) start alike ∙ sym f'.left)
+      (f.stands ∙ ap₂ (foldl moved) start alike ∙ sym f'.stands, f.left ∙ ap₂ (shown_by moved shown) start alike ∙ sym f'.left)

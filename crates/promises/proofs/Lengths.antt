@@ -4,13 +4,13 @@ use mathlib.Core.Path.{◌∙◌}
 use lib.ListN.{length-set}
 use Rattle.promises.specs.Types.{Payment, Call}
 use Rattle.rules.specs.State.{State}
-use Rattle.rules.specs.Effects.{effect, debit, balancesAfter, holdersAfter, oldest, deposited, withdrawn, sent, settledOne, outsideAfter}
+use Rattle.rules.specs.Effects.{effect, debit, balances_after, holders_after, oldest, deposited, withdrawn, sent, settled_one, outside_after}
 use Rattle.promises.specs.Started.{Lengths}
 use Rattle.promises.proofs.Cells.{length-credit, length-debit, length-raised}
 
 -- no call changes how long the lists are
 pub lengths-kept : (s : State) (c : Call) → Lengths s → Lengths (effect c s)
-unfolding effect balancesAfter holdersAfter outsideAfter deposited withdrawn sent settledOne
+unfolding effect balances_after holders_after outside_after deposited withdrawn sent settled_one
 lengths-kept s (Call.Deposit d) l =
     record { balances = l.balances; holders = l.holders; lifetime = length-raised s.outside.lifetime d.asset d.amount ∙ l.lifetime; settled = l.settled }
 lengths-kept s (Call.Claim c) l =

@@ -48,13 +48,13 @@ module _ {A : Type 0} where
       go false false e f ih = ih
 
   -- what passes with one taken out passed before
-  pub any-without : (p : A → Bool) (xs : List A) (i : ℕ) → any p (take i xs ++ drop (suc i) xs) ≡ true → any p xs ≡ true
+  pub any_without : (p : A → Bool) (xs : List A) (i : ℕ) → any p (take i xs ++ drop (suc i) xs) ≡ true → any p xs ≡ true
   unfolding any
-  any-without p [] zero h = h
-  any-without p [] (suc i) h = h
-  any-without p (x ∷ xs) zero h = rw h (or-true (p x))
-  any-without p (x ∷ xs) (suc i) h =
-      either (p x) (any p (take i xs ++ drop (suc i) xs)) h (p x || any p xs) (λ e. rw e) (λ e. rw (any-without p xs i e) (or-true (p x)))
+  any_without p [] zero h = h
+  any_without p [] (suc i) h = h
+  any_without p (x ∷ xs) zero h = rw h (or-true (p x))
+  any_without p (x ∷ xs) (suc i) h =
+      either (p x) (any p (take i xs ++ drop (suc i) xs)) h (p x || any p xs) (λ e. rw e) (λ e. rw (any_without p xs i e) (or-true (p x)))
 
   -- what some element passes, and what every element passes, some element passes together
   pub any-all : (p q r : A → Bool) → ((x : A) → p x ≡ true → q x ≡ true → r x ≡ true) → (xs : List A) → any p xs ≡ true → all q xs ≡ true → any r xs ≡ true

@@ -10,15 +10,15 @@ use lib.ListN.{length, get_or, set, get_or-eq_default}
 use lib.Seq.{get_or-set_same, get_or-set_other}
 use borrow.Author.Tests.{ltb-true, ltb-false, eqb-true, eqb-false}
 use Rattle.promises.specs.Types.{GrantFields, Call}
-use Rattle.rules.specs.Limits.{isDomain}
+use Rattle.rules.specs.Limits.{is_domain}
 use Rattle.rules.specs.State.{State, Book, view}
-use Rattle.rules.specs.Effects.{effect, holder, holdersAfter}
+use Rattle.rules.specs.Effects.{effect, holder, holders_after}
 use Rattle.rules.specs.Runs.{run}
-use Rattle.rules.specs.Views.{namesMember, seenBy}
+use Rattle.rules.specs.Views.{names_member, seen_by}
 use Rattle.rules.specs.Facts.{Within, GrantFit, Fit}
 use Rattle.rules.proofs.Accepts.{fit}
-use Rattle.rules.proofs.Tests.{within-true, true-within}
-use Rattle.promises.proofs.MemberUnwinding.{member-unwound}
+use Rattle.rules.proofs.Tests.{within_true, true_within}
+use Rattle.promises.proofs.MemberUnwinding.{member_unwound}
 
 -- ---- the place of a holder
 -- a domain that somebody holds has a place in the list
@@ -27,32 +27,32 @@ unfolding holder
 held_place hs d m w l h = go (ltb (d - 1) (length hs)) refl
   where
     at : get_or hs (d - 1) 0 ≡ m
-    at = rw (true-within 1 8 d w) at h
+    at = rw (true_within 1 8 d w) at h
 
     go : (t : Bool) → ltb (d - 1) (length hs) ≡ t → d - 1 < length hs
     go true e = ltb-true (d - 1) (length hs) e
     go false e = absurd (omega (arith, at, get_or-eq_default hs 0 (ltb-false (d - 1) (length hs) e)))
 
 -- after a grant of a domain that the giver holds, its holder is the one it was granted to, and every other domain's is as it was
-holder-granted : (s : State) (g : GrantFields) → GrantFit s g → (d : ℕ)
+holder_granted : (s : State) (g : GrantFields) → GrantFit s g → (d : ℕ)
     → holder (set s.holders (g.domain - 1) g.to) d ≡ cond (eqb g.domain d) g.to (holder s.holders d)
 unfolding holder
-holder-granted s g f d = go (eqb g.domain d) refl
+holder_granted s g f d = go (eqb g.domain d) refl
   where
     place : g.domain - 1 < length s.holders
     place = held_place s.holders g.domain g.from f.domain f.from.low f.holds
 
-    other : (t : Bool) → isDomain d ≡ t → g.domain ≢ d → cond t (get_or (set s.holders (g.domain - 1) g.to) (d - 1) 0) 0 ≡ cond t (get_or s.holders (d - 1) 0) 0
+    other : (t : Bool) → is_domain d ≡ t → g.domain ≢ d → cond t (get_or (set s.holders (g.domain - 1) g.to) (d - 1) 0) 0 ≡ cond t (get_or s.holders (d - 1) 0) 0
     other true e n =
-        let w : Within 1 8 d = within-true 1 8 d e in
+        let w : Within 1 8 d = within_true 1 8 d e in
         let v : Within 1 8 g.domain = f.domain in
         get_or-set_other s.holders (g.domain - 1) (d - 1) g.to 0 (λ same. n (omega arith))
     other false e n = refl
 
     go : (t : Bool) → eqb g.domain d ≡ t
-        → cond (isDomain d) (get_or (set s.holders (g.domain - 1) g.to) (d - 1) 0) 0 ≡ cond t g.to (cond (isDomain d) (get_or s.holders (d - 1) 0) 0)
-    go true e = rw (← eqb-true g.domain d e, true-within 1 8 g.domain f.domain) (get_or-set_same s.holders (g.domain - 1) g.to 0 place)
-    go false e = other (isDomain d) refl (eqb-false g.domain d e)
+        → cond (is_domain d) (get_or (set s.holders (g.domain - 1) g.to) (d - 1) 0) 0 ≡ cond t g.to (cond (is_domain d) (get_or s.holders (d - 1) 0) 0)
+    go true e = rw (← eqb-true g.domain d e, true_within 1 8 g.domain f.domain) (get_or-set_same s.holders (g.domain - 1) g.to 0 place)
+    go false e = other (is_domain d) refl (eqb-false g.domain d e)
 
 -- ---- whether the member holds a domain
 abbrev pub holds : ℕ → State → ℕ → Bool
@@ -71,14 +71,14 @@ passed m held (Call.Sign g) = held
 passed m held (Call.Trace n) = held
 
 holds_named : (m : ℕ) (s : State) (c : Call) → Fit s c → holds m (effect c s) ≡ passed m (holds m s) c
-unfolding effect holdersAfter passed
+unfolding effect holders_after passed
 holds_named m s (Call.Deposit d) f = refl
 holds_named m s (Call.Claim c) f = refl
 holds_named m s (Call.Transfer t) f = refl
 holds_named m s (Call.Withdraw w) f = refl
 holds_named m s Call.Send f = refl
 holds_named m s (Call.Settle n) f = refl
-holds_named m s (Call.Grant g) f = fun_ext (λ d. ap (λ (h : ℕ). eqb h m) (holder-granted s g f d) ∙ go d (eqb g.domain d))
+holds_named m s (Call.Grant g) f = fun_ext (λ d. ap (λ (h : ℕ). eqb h m) (holder_granted s g f d) ∙ go d (eqb g.domain d))
   where
     go : (d : ℕ) (t : Bool) → eqb (cond t g.to (holder s.holders d)) m ≡ cond t (eqb g.to m) (eqb (holder s.holders d) m)
     go d true = refl
@@ -87,8 +87,8 @@ holds_named m s (Call.Sign g) f = refl
 holds_named m s (Call.Trace n) f = refl
 
 -- a call that does not name the member leaves it as it is: of a grant, neither the giver, who held the domain, nor the one who has it now is the member
-holds-others : (m : ℕ) (s : State) (c : Call) → Fit s c → namesMember m c ≡ false → passed m (holds m s) c ≡ holds m s
-unfolding passed namesMember
+holds-others : (m : ℕ) (s : State) (c : Call) → Fit s c → names_member m c ≡ false → passed m (holds m s) c ≡ holds m s
+unfolding passed names_member
 holds-others m s (Call.Deposit d) f h = refl
 holds-others m s (Call.Claim c) f h = refl
 holds-others m s (Call.Transfer t) f h = refl
@@ -105,8 +105,8 @@ holds-others m s (Call.Sign g) f h = refl
 holds-others m s (Call.Trace n) f h = refl
 
 -- so two runs that the member sees alike leave the member the same domains
-pub same-domains : (m : ℕ) (b b' : Book) → holds m (view b) ≡ holds m (view b') → (cs cs' : List Call) → seenBy m b cs ≡ seenBy m b' cs'
+pub same-domains : (m : ℕ) (b b' : Book) → holds m (view b) ≡ holds m (view b') → (cs cs' : List Call) → seen_by m b cs ≡ seen_by m b' cs'
     → holds m (view (run b cs)) ≡ holds m (view (run b' cs'))
 same-domains m =
-    member-unwound m (holds m) (passed m) (λ b c a h. holds_named m (view b) c (fit b c a))
+    member_unwound m (holds m) (passed m) (λ b c a h. holds_named m (view b) c (fit b c a))
     (λ b c a h. holds_named m (view b) c (fit b c a) ∙ holds-others m (view b) c (fit b c a) h)

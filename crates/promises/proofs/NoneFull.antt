@@ -8,14 +8,14 @@ use native.Mathlib.Omega.{arith}
 use lib.Dec.{leb, eqb}
 use borrow.Author.Tests.{leb-true, eqb-true}
 use Rattle.promises.specs.Types.{Call}
-use Rattle.rules.specs.Limits.{within, historyRows, outboxRows}
+use Rattle.rules.specs.Limits.{within, history_rows, outbox_rows}
 use Rattle.rules.specs.Lists.{all}
 use Rattle.rules.specs.State.{State, payments}
-use Rattle.rules.specs.Replies.{toldRefusal, smaller, smallest}
+use Rattle.rules.specs.Replies.{told_refusal, smaller, smallest}
 use Rattle.rules.specs.Refusals.{full, fulls}
-use Rattle.rules.specs.Views.{asks, hasRoom}
-use Rattle.rules.proofs.Tests.{both, not-holds, within-true, numbered, noneApplies, nothing-smallest}
-use Rattle.promises.proofs.Replies.{smallest-own, one_passes}
+use Rattle.rules.specs.Views.{asks, has_room}
+use Rattle.rules.proofs.Tests.{both, not-holds, within_true, numbered, none_applies, nothing-smallest}
+use Rattle.promises.proofs.Replies.{smallest_own, one_passes}
 
 -- ---- one table after another
 -- the smaller of two numbers, either of which may say that nothing applies
@@ -23,15 +23,15 @@ abbrev least : ℕ → ℕ → ℕ
 least zero n = n
 least (suc m) n = smaller (suc m) n
 
-least-of : (n x y : ℕ) → 1 ≤ n → smaller n (least x y) ≡ least (smaller n x) y
-least-of zero x y h = absurd (omega arith)
-least-of (suc n) zero y h = refl
-least-of (suc n) (suc x) zero h = go (min (suc n) (suc x)) (omega arith)
+least_of : (n x y : ℕ) → 1 ≤ n → smaller n (least x y) ≡ least (smaller n x) y
+least_of zero x y h = absurd (omega arith)
+least_of (suc n) zero y h = refl
+least_of (suc n) (suc x) zero h = go (min (suc n) (suc x)) (omega arith)
   where
     go : (k : ℕ) → 1 ≤ k → k ≡ least k 0
     go zero l = absurd (omega arith)
     go (suc k) l = refl
-least-of (suc n) (suc x) (suc y) h = go (min (suc n) (suc x)) (omega arith) (omega arith)
+least_of (suc n) (suc x) (suc y) h = go (min (suc n) (suc x)) (omega arith) (omega arith)
   where
     go : (k : ℕ) → 1 ≤ k → min (suc n) (min (suc x) (suc y)) ≡ min k (suc y) → smaller (suc n) (min (suc x) (suc y)) ≡ least k (suc y)
     go zero l e = absurd (omega arith)
@@ -50,7 +50,7 @@ smallest-append (r ∷ rs) fs h =
   where
     go : (t : Bool) → 1 ≤ r.0 → smallest (rs ++ fs) ≡ least (smallest rs) (smallest fs)
         → cond t (smaller r.0 (smallest (rs ++ fs))) (smallest (rs ++ fs)) ≡ least (cond t (smaller r.0 (smallest rs)) (smallest rs)) (smallest fs)
-    go true l ih = rw ih (least-of r.0 (smallest rs) (smallest fs) l)
+    go true l ih = rw ih (least_of r.0 (smallest rs) (smallest fs) l)
     go false l ih = ih
 
 -- a number that is not the second table's is the first's
@@ -67,16 +67,16 @@ first-given rs fs h n = go (smallest rs) (smallest fs) (smallest-append rs fs h)
 
 -- ---- the member's own calls
 -- where no table is full, none is said to be
-none-full : (s : State) (c : Call) → hasRoom s ≡ true → (m : ℕ) → asks m c ≡ true → noneApplies (fulls s c) ≡ true
-unfolding asks fulls all hasRoom
+none-full : (s : State) (c : Call) → has_room s ≡ true → (m : ℕ) → asks m c ≡ true → none_applies (fulls s c) ≡ true
+unfolding asks fulls all has_room
 none-full s c h m a = go c a
   where
-    room : (full historyRows s.history ≡ false) × (full outboxRows (payments s.outside) ≡ false)
+    room : (full history_rows s.history ≡ false) × (full outbox_rows (payments s.outside) ≡ false)
     room =
-        let (p, q) = both (not (full historyRows s.history)) (not (full outboxRows (payments s.outside))) h in
-        (not-holds (full historyRows s.history) p, not-holds (full outboxRows (payments s.outside)) q)
+        let (p, q) = both (not (full history_rows s.history)) (not (full outbox_rows (payments s.outside))) h in
+        (not-holds (full history_rows s.history) p, not-holds (full outbox_rows (payments s.outside)) q)
 
-    go : (c : Call) → asks m c ≡ true → noneApplies (fulls s c) ≡ true
+    go : (c : Call) → asks m c ≡ true → none_applies (fulls s c) ≡ true
     go (Call.Deposit d) a = absurd (false≢true a)
     go (Call.Claim c) a = rw room.0
     go (Call.Transfer t) a = rw room.0
@@ -87,28 +87,28 @@ none-full s c h m a = go c a
     go (Call.Sign g) a = refl
     go (Call.Trace n) a = refl
 
-pub room-smallest : (s : State) (c : Call) (m : ℕ) → asks m c ≡ true → hasRoom s ≡ true → smallest (fulls s c) ≡ 0
+pub room-smallest : (s : State) (c : Call) (m : ℕ) → asks m c ≡ true → has_room s ≡ true → smallest (fulls s c) ≡ 0
 room-smallest s c m a h = nothing-smallest (fulls s c) (none-full s c h m a)
 
 -- what says that a table is full is 16 or 17
-abbrev isFull : ℕ → Bool
-isFull n = eqb n 0 || within 16 17 n
+abbrev is_full : ℕ → Bool
+is_full n = eqb n 0 || within 16 17 n
 
-fulls-are : (s : State) (c : Call) (m : ℕ) → asks m c ≡ true → all isFull (0 ∷ map (λ (r : ℕ × Bool). r.0) (fulls s c)) ≡ true
-unfolding asks fulls all toldRefusal
-fulls-are s (Call.Deposit d) m a = absurd (false≢true a)
-fulls-are s (Call.Claim c) m a = refl
-fulls-are s (Call.Transfer t) m a = refl
-fulls-are s (Call.Withdraw w) m a = refl
-fulls-are s Call.Send m a = refl
-fulls-are s (Call.Settle n) m a = refl
-fulls-are s (Call.Grant g) m a = refl
-fulls-are s (Call.Sign g) m a = refl
-fulls-are s (Call.Trace n) m a = refl
+fulls_are : (s : State) (c : Call) (m : ℕ) → asks m c ≡ true → all is_full (0 ∷ map (λ (r : ℕ × Bool). r.0) (fulls s c)) ≡ true
+unfolding asks fulls all told_refusal
+fulls_are s (Call.Deposit d) m a = absurd (false≢true a)
+fulls_are s (Call.Claim c) m a = refl
+fulls_are s (Call.Transfer t) m a = refl
+fulls_are s (Call.Withdraw w) m a = refl
+fulls_are s Call.Send m a = refl
+fulls_are s (Call.Settle n) m a = refl
+fulls_are s (Call.Grant g) m a = refl
+fulls_are s (Call.Sign g) m a = refl
+fulls_are s (Call.Trace n) m a = refl
 
 pub full-number : (s : State) (c : Call) (m : ℕ) → asks m c ≡ true → smallest (fulls s c) ≢ 0 → (16 ≤ smallest (fulls s c)) × (smallest (fulls s c) ≤ 17)
-full-number s c m a z = go (eqb (smallest (fulls s c)) 0) refl (one_passes isFull (smallest (fulls s c)) (0 ∷ map (λ (r : ℕ × Bool). r.0) (fulls s c)) (smallest-own (fulls s c)) (fulls-are s c m a))
+full-number s c m a z = go (eqb (smallest (fulls s c)) 0) refl (one_passes is_full (smallest (fulls s c)) (0 ∷ map (λ (r : ℕ × Bool). r.0) (fulls s c)) (smallest_own (fulls s c)) (fulls_are s c m a))
   where
     go : (t : Bool) → eqb (smallest (fulls s c)) 0 ≡ t → t || within 16 17 (smallest (fulls s c)) ≡ true → (16 ≤ smallest (fulls s c)) × (smallest (fulls s c) ≤ 17)
     go true e h = absurd (z (eqb-true (smallest (fulls s c)) 0 e))
-    go false e h = let w = within-true 16 17 (smallest (fulls s c)) h in (w.low, w.high)
+    go false e h = let w = within_true 16 17 (smallest (fulls s c)) h in (w.low, w.high)

@@ -6,20 +6,20 @@ use native.Mathlib.Omega.{arith}
 use lib.ListN.{length, take, drop, length-append}
 use lib.Seq.{append_snoc}
 use Rattle.promises.specs.Types.{Deposit, Payment, WithdrawalFields, Call}
-use Rattle.rules.specs.Limits.{assetCount}
+use Rattle.rules.specs.Limits.{asset_count}
 use Rattle.rules.specs.Lists.{sum_of}
 use Rattle.rules.specs.State.{Outside, Book, view}
-use Rattle.rules.specs.Effects.{effect, total, oldest, paymentOf, deposited, withdrawn, sent, settledOne, outsideAfter}
+use Rattle.rules.specs.Effects.{effect, total, oldest, payment_of, deposited, withdrawn, sent, settled_one, outside_after}
 use Rattle.rules.specs.Runs.{depositing, sending, settling}
-use Rattle.rules.specs.Sheet.{up_from, depositedIn, paidIn}
+use Rattle.rules.specs.Sheet.{up_from, deposited_in, paid_in}
 use Rattle.rules.specs.Facts.{Accepted, Within, DepositFit, SendFit, SettleFit}
-use Rattle.promises.specs.Demand2.{nonceOf, queueing}
+use Rattle.promises.specs.Demand2.{nonce_of, queueing}
 use Rattle.rules.proofs.Accepts.{fit}
 use Rattle.promises.proofs.Cells.{total-raised}
 use Rattle.promises.proofs.Framed.{Framed, framed}
 use Rattle.lots.proofs.ListLaws.{sum-append}
 use Rattle.promises.proofs.Sums.{sum_one}
-use Rattle.promises.proofs.Sheet.{first_rest, oldest-in}
+use Rattle.promises.proofs.Sheet.{first_rest, oldest_in}
 use Rattle.promises.specs.Started.{Started}
 use Rattle.promises.proofs.UpFrom.{up_next}
 
@@ -31,7 +31,7 @@ number_in d = d.number.0
 pub record Deposited (from : Outside) (ds : List Deposit) (o : Outside) : Type 0 where
   pub numbers : map number_in ds ≡ up_from (from.last.0 + 1) (length ds)
   pub last : o.last.0 ≡ from.last.0 + length ds
-  pub lifetime : (a : ℕ) → total o.lifetime a ≡ total from.lifetime a + sum_of (depositedIn a) ds
+  pub lifetime : (a : ℕ) → total o.lifetime a ≡ total from.lifetime a + sum_of (deposited_in a) ds
 
 -- at the start there is none
 pub none-deposited : (o : Outside) → Deposited o [] o
@@ -40,7 +40,7 @@ none-deposited o = record { numbers = refl; last = omega arith; lifetime = λ a.
 
 module _ (from : Outside) where
   -- an accepted deposit is one more
-  one_more : (ds : List Deposit) (o : Outside) (d : Deposit) → length o.lifetime ≡ assetCount → Within 1 assetCount d.asset → d.number.0 ≡ o.last.0 + 1
+  one_more : (ds : List Deposit) (o : Outside) (d : Deposit) → length o.lifetime ≡ asset_count → Within 1 asset_count d.asset → d.number.0 ≡ o.last.0 + 1
       → Deposited from ds o → Deposited from (ds ++ (d ∷ [])) (deposited d o)
   unfolding deposited
   one_more ds o d l a n h =
@@ -49,7 +49,7 @@ module _ (from : Outside) where
       record {
         numbers = map-append number_in ds (d ∷ []) ∙ rw (e, up_next (from.last.0 + 1) (length ds), h.numbers, i);
         last = omega (arith, h.last);
-        lifetime = λ x. omega (arith, total-raised o.lifetime d.asset d.amount l a x, h.lifetime x, sum-append (depositedIn x) ds (d ∷ []), sum_one (depositedIn x) d);
+        lifetime = λ x. omega (arith, total-raised o.lifetime d.asset d.amount l a x, h.lifetime x, sum-append (deposited_in x) ds (d ∷ []), sum_one (deposited_in x) d);
       }
 
   -- any other call brings none, and leaves the last number and the lifetime totals
@@ -57,20 +57,20 @@ module _ (from : Outside) where
   no_more ds o p e f h = rw (append-nil ds) record { numbers = h.numbers; last = rw (← e) h.last; lifetime = rw (← f) h.lifetime }
 
   -- every accepted call keeps it
-  pub deposits-log : (ds : List Deposit) (ys : List ℕ) (b : Book) (c : Call) → Accepted b c → Started b → Deposited from ds (view b).outside
+  pub deposits_log : (ds : List Deposit) (ys : List ℕ) (b : Book) (c : Call) → Accepted b c → Started b → Deposited from ds (view b).outside
       → Deposited from (ds ++ depositing b c) (effect c (view b)).outside
-  unfolding depositing effect outsideAfter withdrawn sent settledOne
-  deposits-log ds ys b (Call.Deposit d) a r h =
+  unfolding depositing effect outside_after withdrawn sent settled_one
+  deposits_log ds ys b (Call.Deposit d) a r h =
       let k : DepositFit (view b) d = fit b (Call.Deposit d) a in
       one_more ds (view b).outside d r.agreed.lengths.lifetime k.asset k.next h
-  deposits-log ds ys b (Call.Claim c) a r h = no_more ds (view b).outside (view b).outside refl refl h
-  deposits-log ds ys b (Call.Transfer t) a r h = no_more ds (view b).outside (view b).outside refl refl h
-  deposits-log ds ys b (Call.Withdraw w) a r h = no_more ds (view b).outside (withdrawn w (view b).outside) refl refl h
-  deposits-log ds ys b Call.Send a r h = no_more ds (view b).outside (sent (view b).outside) refl refl h
-  deposits-log ds ys b (Call.Settle n) a r h = no_more ds (view b).outside (settledOne (view b).outside) refl refl h
-  deposits-log ds ys b (Call.Grant g) a r h = no_more ds (view b).outside (view b).outside refl refl h
-  deposits-log ds ys b (Call.Sign g) a r h = no_more ds (view b).outside (view b).outside refl refl h
-  deposits-log ds ys b (Call.Trace n) a r h = no_more ds (view b).outside (view b).outside refl refl h
+  deposits_log ds ys b (Call.Claim c) a r h = no_more ds (view b).outside (view b).outside refl refl h
+  deposits_log ds ys b (Call.Transfer t) a r h = no_more ds (view b).outside (view b).outside refl refl h
+  deposits_log ds ys b (Call.Withdraw w) a r h = no_more ds (view b).outside (withdrawn w (view b).outside) refl refl h
+  deposits_log ds ys b Call.Send a r h = no_more ds (view b).outside (sent (view b).outside) refl refl h
+  deposits_log ds ys b (Call.Settle n) a r h = no_more ds (view b).outside (settled_one (view b).outside) refl refl h
+  deposits_log ds ys b (Call.Grant g) a r h = no_more ds (view b).outside (view b).outside refl refl h
+  deposits_log ds ys b (Call.Sign g) a r h = no_more ds (view b).outside (view b).outside refl refl h
+  deposits_log ds ys b (Call.Trace n) a r h = no_more ds (view b).outside (view b).outside refl refl h
 
 -- ---- sends and settlements
 -- the first of some payments moves to the end of what stands before them: the whole stays
@@ -86,7 +86,7 @@ first_taken (p ∷ ps) h = refl
 -- from a start on, the payments that were in flight and those sent so far are those settled and those in flight; those settled raise the settled totals by their sums
 pub record Paid (from : Outside) (ss ts : List Payment) (o : Outside) : Type 0 where
   pub order : from.inflight ++ ss ≡ ts ++ o.inflight
-  pub settled : (a : ℕ) → total o.settled a ≡ total from.settled a + sum_of (paidIn a) ts
+  pub settled : (a : ℕ) → total o.settled a ≡ total from.settled a + sum_of (paid_in a) ts
 
 -- at the start there is none
 pub none-paid : (o : Outside) → Paid o [] [] o
@@ -104,14 +104,14 @@ module _ (from : Outside) where
       }
 
   -- a settlement: the oldest in flight has settled
-  paid-settled : (ss ts : List Payment) (o : Outside) → 1 ≤ length o.inflight → length o.settled ≡ assetCount → Within 1 assetCount (oldest o.inflight).asset
-      → Paid from ss ts o → Paid from ss (ts ++ (oldest o.inflight ∷ [])) (settledOne o)
-  unfolding settledOne
+  paid-settled : (ss ts : List Payment) (o : Outside) → 1 ≤ length o.inflight → length o.settled ≡ asset_count → Within 1 asset_count (oldest o.inflight).asset
+      → Paid from ss ts o → Paid from ss (ts ++ (oldest o.inflight ∷ [])) (settled_one o)
+  unfolding settled_one
   paid-settled ss ts o some l a h =
       let p : Payment = oldest o.inflight in
       record {
         order = h.order ∙ sym (moved ts o.inflight some);
-        settled = λ x. omega (arith, total-raised o.settled p.asset p.amount l a x, h.settled x, sum-append (paidIn x) ts (p ∷ []), sum_one (paidIn x) p);
+        settled = λ x. omega (arith, total-raised o.settled p.asset p.amount l a x, h.settled x, sum-append (paid_in x) ts (p ∷ []), sum_one (paid_in x) p);
       }
 
   -- any other call sends none and settles none
@@ -119,29 +119,29 @@ module _ (from : Outside) where
   none-sent ss ts o p e f h = rw (append-nil ss, append-nil ts) record { order = rw (← e) h.order; settled = rw (← f) h.settled }
 
   -- every accepted call keeps it
-  pub payments-log : (ss ts : List Payment) (b : Book) (c : Call) → Accepted b c → Started b → Paid from ss ts (view b).outside
+  pub payments_log : (ss ts : List Payment) (b : Book) (c : Call) → Accepted b c → Started b → Paid from ss ts (view b).outside
       → Paid from (ss ++ sending b c) (ts ++ settling b c) (effect c (view b)).outside
-  unfolding sending settling effect outsideAfter deposited withdrawn
-  payments-log ss ts b (Call.Deposit d) a r h = none-sent ss ts (view b).outside (deposited d (view b).outside) refl refl h
-  payments-log ss ts b (Call.Claim c) a r h = none-sent ss ts (view b).outside (view b).outside refl refl h
-  payments-log ss ts b (Call.Transfer t) a r h = none-sent ss ts (view b).outside (view b).outside refl refl h
-  payments-log ss ts b (Call.Withdraw w) a r h = none-sent ss ts (view b).outside (withdrawn w (view b).outside) refl refl h
-  payments-log ss ts b Call.Send a r h =
+  unfolding sending settling effect outside_after deposited withdrawn
+  payments_log ss ts b (Call.Deposit d) a r h = none-sent ss ts (view b).outside (deposited d (view b).outside) refl refl h
+  payments_log ss ts b (Call.Claim c) a r h = none-sent ss ts (view b).outside (view b).outside refl refl h
+  payments_log ss ts b (Call.Transfer t) a r h = none-sent ss ts (view b).outside (view b).outside refl refl h
+  payments_log ss ts b (Call.Withdraw w) a r h = none-sent ss ts (view b).outside (withdrawn w (view b).outside) refl refl h
+  payments_log ss ts b Call.Send a r h =
       let k : SendFit (view b) = fit b Call.Send a in
       rw (append-nil ts) (paid-sent ss ts (view b).outside k.some h)
-  payments-log ss ts b (Call.Settle n) a r h =
+  payments_log ss ts b (Call.Settle n) a r h =
       let k : SettleFit (view b) n = fit b (Call.Settle n) a in
       let f : Framed (view b) = framed b r.frame in
       rw (append-nil ss)
-      (paid-settled ss ts (view b).outside k.some r.agreed.lengths.settled (oldest-in (view b).outside.inflight (view b).outside.waiting k.some f.outboxFields) h)
-  payments-log ss ts b (Call.Grant g) a r h = none-sent ss ts (view b).outside (view b).outside refl refl h
-  payments-log ss ts b (Call.Sign g) a r h = none-sent ss ts (view b).outside (view b).outside refl refl h
-  payments-log ss ts b (Call.Trace n) a r h = none-sent ss ts (view b).outside (view b).outside refl refl h
+      (paid-settled ss ts (view b).outside k.some r.agreed.lengths.settled (oldest_in (view b).outside.inflight (view b).outside.waiting k.some f.outbox_fields) h)
+  payments_log ss ts b (Call.Grant g) a r h = none-sent ss ts (view b).outside (view b).outside refl refl h
+  payments_log ss ts b (Call.Sign g) a r h = none-sent ss ts (view b).outside (view b).outside refl refl h
+  payments_log ss ts b (Call.Trace n) a r h = none-sent ss ts (view b).outside (view b).outside refl refl h
 
 -- ---- nonces
 -- from a start on, the payments queued so far have the nonces from its next one on, up to the next
 pub record Numbered (from : Outside) (qs : List Payment) (o : Outside) : Type 0 where
-  pub nonces : map nonceOf qs ≡ up_from from.next.0 (length qs)
+  pub nonces : map nonce_of qs ≡ up_from from.next.0 (length qs)
   pub next : o.next.0 ≡ from.next.0 + length qs
 
 -- at the start there is none
@@ -151,13 +151,13 @@ none-numbered o = record { nonces = refl; next = omega arith }
 
 module _ (from : Outside) where
   -- a withdrawal queues one, with the next nonce
-  one-numbered : (qs : List Payment) (o : Outside) (w : WithdrawalFields) → Numbered from qs o → Numbered from (qs ++ (paymentOf w o.next ∷ [])) (withdrawn w o)
+  one-numbered : (qs : List Payment) (o : Outside) (w : WithdrawalFields) → Numbered from qs o → Numbered from (qs ++ (payment_of w o.next ∷ [])) (withdrawn w o)
   unfolding withdrawn
   one-numbered qs o w h =
-      let p : Payment = paymentOf w o.next in
+      let p : Payment = payment_of w o.next in
       let e : length (qs ++ (p ∷ [])) ≡ length qs + 1 = length-append qs (p ∷ []) in
       record {
-        nonces = map-append nonceOf qs (p ∷ []) ∙ rw (e, up_next from.next.0 (length qs), h.nonces, h.next);
+        nonces = map-append nonce_of qs (p ∷ []) ∙ rw (e, up_next from.next.0 (length qs), h.nonces, h.next);
         next = omega (arith, h.next);
       }
 
@@ -166,15 +166,15 @@ module _ (from : Outside) where
   none-queued qs o p e h = rw (append-nil qs) record { nonces = h.nonces; next = rw (← e) h.next }
 
   -- every accepted call keeps it
-  pub nonces-log : (qs : List Payment) (ys : List ℕ) (b : Book) (c : Call) → Accepted b c → Started b → Numbered from qs (view b).outside
+  pub nonces_log : (qs : List Payment) (ys : List ℕ) (b : Book) (c : Call) → Accepted b c → Started b → Numbered from qs (view b).outside
       → Numbered from (qs ++ queueing b c) (effect c (view b)).outside
-  unfolding queueing effect outsideAfter deposited sent settledOne
-  nonces-log qs ys b (Call.Deposit d) a r h = none-queued qs (view b).outside (deposited d (view b).outside) refl h
-  nonces-log qs ys b (Call.Claim c) a r h = none-queued qs (view b).outside (view b).outside refl h
-  nonces-log qs ys b (Call.Transfer t) a r h = none-queued qs (view b).outside (view b).outside refl h
-  nonces-log qs ys b (Call.Withdraw w) a r h = one-numbered qs (view b).outside w h
-  nonces-log qs ys b Call.Send a r h = none-queued qs (view b).outside (sent (view b).outside) refl h
-  nonces-log qs ys b (Call.Settle n) a r h = none-queued qs (view b).outside (settledOne (view b).outside) refl h
-  nonces-log qs ys b (Call.Grant g) a r h = none-queued qs (view b).outside (view b).outside refl h
-  nonces-log qs ys b (Call.Sign g) a r h = none-queued qs (view b).outside (view b).outside refl h
-  nonces-log qs ys b (Call.Trace n) a r h = none-queued qs (view b).outside (view b).outside refl h
+  unfolding queueing effect outside_after deposited sent settled_one
+  nonces_log qs ys b (Call.Deposit d) a r h = none-queued qs (view b).outside (deposited d (view b).outside) refl h
+  nonces_log qs ys b (Call.Claim c) a r h = none-queued qs (view b).outside (view b).outside refl h
+  nonces_log qs ys b (Call.Transfer t) a r h = none-queued qs (view b).outside (view b).outside refl h
+  nonces_log qs ys b (Call.Withdraw w) a r h = one-numbered qs (view b).outside w h
+  nonces_log qs ys b Call.Send a r h = none-queued qs (view b).outside (sent (view b).outside) refl h
+  nonces_log qs ys b (Call.Settle n) a r h = none-queued qs (view b).outside (settled_one (view b).outside) refl h
+  nonces_log qs ys b (Call.Grant g) a r h = none-queued qs (view b).outside (view b).outside refl h
+  nonces_log qs ys b (Call.Sign g) a r h = none-queued qs (view b).outside (view b).outside refl h
+  nonces_log qs ys b (Call.Trace n) a r h = none-queued qs (view b).outside (view b).outside refl h

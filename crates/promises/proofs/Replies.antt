@@ -10,11 +10,11 @@ use borrow.Author.Tests.{leb-true, eq-eqb, eqb-true, leb-false}
 use Rattle.promises.specs.Types.{Call, Line}
 use Rattle.rules.specs.Lists.{all, any}
 use Rattle.rules.specs.State.{Book}
-use Rattle.rules.specs.Replies.{toldRefusal, told, smaller, smallest}
-use Rattle.rules.specs.Refusals.{refusals, fulls, traceRefusals}
-use Rattle.rules.specs.Answer.{asked, frameTest, replyNumber, answer}
-use Rattle.rules.specs.Transcript.{answerLine}
-use Rattle.promises.specs.Demand1.{possible, isOneOf}
+use Rattle.rules.specs.Replies.{told_refusal, told, smaller, smallest}
+use Rattle.rules.specs.Refusals.{refusals, fulls, trace_refusals}
+use Rattle.rules.specs.Answer.{asked, frame_test, reply_number, answer}
+use Rattle.rules.specs.Transcript.{answer_line}
+use Rattle.promises.specs.Demand1.{possible, is_one_of}
 use Rattle.promises.specs.Promises.{Numbered, Unchanged, LineAnswered}
 use Rattle.rules.proofs.Tests.{both}
 use Rattle.rules.proofs.Accepts.{reply-number}
@@ -22,10 +22,10 @@ use Rattle.promises.proofs.Base.{refused-leaves}
 use Rattle.promises.proofs.Smallest.{number-applies, number-smallest}
 
 -- the smallest number of a table is 0 or one of its numbers
-pub smallest-own : (rs : List (ℕ × Bool)) → isOneOf (smallest rs) (0 ∷ map (λ (r : ℕ × Bool). r.0) rs) ≡ true
+pub smallest_own : (rs : List (ℕ × Bool)) → is_one_of (smallest rs) (0 ∷ map (λ (r : ℕ × Bool). r.0) rs) ≡ true
 unfolding any smallest
-smallest-own [] = refl
-smallest-own (r ∷ rs) = go r.1 (smallest rs) (smallest-own rs)
+smallest_own [] = refl
+smallest_own (r ∷ rs) = go r.1 (smallest rs) (smallest_own rs)
   where
     rest : ℕ → Bool
     rest x = any (eqb x) (map (λ (r : ℕ × Bool). r.0) rs)
@@ -49,27 +49,27 @@ smallest-own (r ∷ rs) = go r.1 (smallest rs) (smallest-own rs)
     go false x h = later x h
 
 -- what is one of some numbers passes every test that they all pass
-pub one_passes : (p : ℕ → Bool) (n : ℕ) (ns : List ℕ) → isOneOf n ns ≡ true → all p ns ≡ true → p n ≡ true
+pub one_passes : (p : ℕ → Bool) (n : ℕ) (ns : List ℕ) → is_one_of n ns ≡ true → all p ns ≡ true → p n ≡ true
 unfolding any all
 one_passes p n [] h k = absurd (false≢true h)
 one_passes p n (m ∷ ns) h k = go (eqb n m) refl h (one_passes p n ns)
   where
-    go : (t : Bool) → eqb n m ≡ t → t || isOneOf n ns ≡ true → (isOneOf n ns ≡ true → all p ns ≡ true → p n ≡ true) → p n ≡ true
+    go : (t : Bool) → eqb n m ≡ t → t || is_one_of n ns ≡ true → (is_one_of n ns ≡ true → all p ns ≡ true → p n ≡ true) → p n ≡ true
     go true e i ih = rw (eqb-true n m e) (both (p m) (all p ns) k).0
     go false e i ih = ih i (both (p m) (all p ns) k).1
 
 -- a call's possible numbers are 0 and those of its table
-own-numbers : (b : Book) (c : Call) → 0 ∷ map (λ (r : ℕ × Bool). r.0) (asked b c) ≡ possible c
-unfolding frameTest refusals fulls traceRefusals toldRefusal possible
-own-numbers b (Call.Deposit d) = refl
-own-numbers b (Call.Claim c) = refl
-own-numbers b (Call.Transfer t) = refl
-own-numbers b (Call.Withdraw w) = refl
-own-numbers b Call.Send = refl
-own-numbers b (Call.Settle n) = refl
-own-numbers b (Call.Grant g) = refl
-own-numbers b (Call.Sign g) = refl
-own-numbers b (Call.Trace n) = refl
+own_numbers : (b : Book) (c : Call) → 0 ∷ map (λ (r : ℕ × Bool). r.0) (asked b c) ≡ possible c
+unfolding frame_test refusals fulls trace_refusals told_refusal possible
+own_numbers b (Call.Deposit d) = refl
+own_numbers b (Call.Claim c) = refl
+own_numbers b (Call.Transfer t) = refl
+own_numbers b (Call.Withdraw w) = refl
+own_numbers b Call.Send = refl
+own_numbers b (Call.Settle n) = refl
+own_numbers b (Call.Grant g) = refl
+own_numbers b (Call.Sign g) = refl
+own_numbers b (Call.Trace n) = refl
 
 -- of which none is above 21
 low-numbers : (c : Call) → all (λ n. leb n 21) (possible c) ≡ true
@@ -88,17 +88,17 @@ low-numbers (Call.Trace n) = refl
 pub numbered : (b : Book) (c : Call) → Numbered b c
 numbered b c =
     record {
-      oneOfItsOwn = rw (reply-number b c, ← own-numbers b c) (number-own b c);
+      one_of_its_own = rw (reply-number b c, ← own_numbers b c) (number_own b c);
       applies = rw (reply-number b c) (number-applies b c);
       smallest = rw (reply-number b c) (number-smallest b c);
     }
   where
-    number-own : (b : Book) (c : Call) → isOneOf (replyNumber b c) (0 ∷ map (λ (r : ℕ × Bool). r.0) (asked b c)) ≡ true
-    number-own b c = unfold replyNumber in smallest-own (asked b c)
+    number_own : (b : Book) (c : Call) → is_one_of (reply_number b c) (0 ∷ map (λ (r : ℕ × Bool). r.0) (asked b c)) ≡ true
+    number_own b c = unfold reply_number in smallest_own (asked b c)
 
 -- and none is above 21
 number-low : (b : Book) (c : Call) → (answer b c).reply.number ≤ 21
-number-low b c = leb-true (answer b c).reply.number 21 (one_passes (λ n. leb n 21) (answer b c).reply.number (possible c) (numbered b c).oneOfItsOwn (low-numbers c))
+number-low b c = leb-true (answer b c).reply.number 21 (one_passes (λ n. leb n 21) (answer b c).reply.number (possible c) (numbered b c).one_of_its_own (low-numbers c))
 
 -- a refused call changes nothing, and tells nothing but its number
 pub refused : (b : Book) (c : Call) → (answer b c).reply.number ≢ 0 → Unchanged b (answer b c)
@@ -106,6 +106,6 @@ refused b c h = refused-leaves b c (rw (reply-number b c) at h)
 
 -- a line that is no call is answered 1, and changes nothing either
 pub line-answered : (b : Book) (l : Line) → LineAnswered b l
-unfolding answerLine told toldRefusal
+unfolding answer_line told told_refusal
 line-answered b (Line.Reads c) = record { at_most = number-low b c; book = λ h. (refused b c h).book; values = λ h g. (refused b c h).values; pieces = λ h. (refused b c h).pieces }
 line-answered b (Line.Malformed k) = record { at_most = omega arith; book = λ h. refl; values = λ h g. absurd (g refl); pieces = λ h. refl }

@@ -8,19 +8,19 @@ use lib.Dec.{eqb}
 use lib.ListN.{length, get_or, take, drop, take-append-drop}
 use borrow.Author.Tests.{eqb-true}
 use Rattle.promises.specs.Types.{Deposit, Payment, ClaimFields, Call}
-use Rattle.rules.specs.Limits.{isAsset, isAmount, isPayee, assetCount}
+use Rattle.rules.specs.Limits.{is_asset, is_amount, is_payee, asset_count}
 use Rattle.rules.specs.Lists.{all, any, index_of, sum_of}
-use Rattle.rules.specs.Tables.{edited, noDeposit}
+use Rattle.rules.specs.Tables.{edited, no_deposit}
 use Rattle.rules.specs.State.{Outside, State, payments}
-use Rattle.rules.specs.Effects.{effect, debit, balancesAfter, matches, inboxEdit, oldest, paymentOf, deposited, withdrawn, sent, settledOne, outsideAfter}
-use Rattle.rules.specs.Frame.{paymentInLimits}
-use Rattle.rules.specs.Sheet.{depositedIn, paidIn}
+use Rattle.rules.specs.Effects.{effect, debit, balances_after, matches, inbox_edit, oldest, payment_of, deposited, withdrawn, sent, settled_one, outside_after}
+use Rattle.rules.specs.Frame.{payment_in_limits}
+use Rattle.rules.specs.Sheet.{deposited_in, paid_in}
 use Rattle.rules.specs.Facts.{Within, Fit}
-use Rattle.rules.proofs.Tests.{both, within-true}
+use Rattle.rules.proofs.Tests.{both, within_true}
 use Rattle.promises.proofs.Framed.{Framed}
 use Rattle.promises.proofs.Cells.{length-debit, total-raised}
 use Rattle.lots.proofs.ListLaws.{sum-append}
-use Rattle.promises.proofs.Sums.{sum_one, sum-without, found_in, found-passes, sum-credit, sum-debit}
+use Rattle.promises.proofs.Sums.{sum_one, sum_without, found_in, found-passes, sum-credit, sum-debit}
 use Rattle.promises.specs.Started.{Lengths, Balanced}
 
 -- ---- the outbox's oldest payments
@@ -31,12 +31,12 @@ first_rest [] h = absurd (omega arith)
 first_rest (p ∷ ps) h = refl
 
 -- the oldest in flight is a payment of the outbox, so its fields are in their limits
-pub oldest-in : (ps ws : List Payment) → 1 ≤ length ps → all paymentInLimits (ps ++ ws) ≡ true → Within 1 assetCount (oldest ps).asset
+pub oldest_in : (ps ws : List Payment) → 1 ≤ length ps → all payment_in_limits (ps ++ ws) ≡ true → Within 1 asset_count (oldest ps).asset
 unfolding all oldest
-oldest-in [] ws h f = absurd (omega arith)
-oldest-in (p ∷ ps) ws h f =
-    let (e, r) = both (paymentInLimits p) (all paymentInLimits (ps ++ ws)) f in
-    within-true 1 8 p.asset (both (isAsset p.asset) (isAmount p.amount && isPayee p.payee) e).0
+oldest_in [] ws h f = absurd (omega arith)
+oldest_in (p ∷ ps) ws h f =
+    let (e, r) = both (payment_in_limits p) (all payment_in_limits (ps ++ ws)) f in
+    within_true 1 8 p.asset (both (is_asset p.asset) (is_amount p.amount && is_payee p.payee) e).0
 
 -- and what is summed over the payments in flight is its number and the others'
 oldest-sum : (f : Payment → ℕ) (ps : List Payment) → 1 ≤ length ps → sum_of f ps ≡ f (oldest ps) + sum_of f (drop 1 ps)
@@ -52,7 +52,7 @@ sent-payments o = append_assoc o.inflight (take 1 o.waiting) (drop 1 o.waiting) 
 -- ---- the claimed deposit
 -- the row that a claim takes out
 abbrev pub claimed : ClaimFields → List Deposit → Deposit
-claimed c inbox = get_or inbox (index_of (matches c) inbox) noDeposit
+claimed c inbox = get_or inbox (index_of (matches c) inbox) no_deposit
 
 -- it has the claim's four fields
 pub record Matched (c : ClaimFields) (d : Deposit) : Type 0 where
@@ -66,7 +66,7 @@ pub matched : (c : ClaimFields) (inbox : List Deposit) → any (matches c) inbox
 unfolding matches
 matched c inbox h =
     let d : Deposit = claimed c inbox in
-    let (n, r) = both (eqb d.number.0 c.number.0) (eqb d.asset c.asset && (eqb d.amount c.amount && eqb d.member c.member)) (found-passes (matches c) inbox noDeposit h) in
+    let (n, r) = both (eqb d.number.0 c.number.0) (eqb d.asset c.asset && (eqb d.amount c.amount && eqb d.member c.member)) (found-passes (matches c) inbox no_deposit h) in
     let (a, q) = both (eqb d.asset c.asset) (eqb d.amount c.amount && eqb d.member c.member) r in
     let (x, m) = both (eqb d.amount c.amount) (eqb d.member c.member) q in
     record {
@@ -78,53 +78,53 @@ matched c inbox h =
 
 -- ---- the sheet
 -- every accepted call keeps the sheet balanced
-pub balanced-kept : (s : State) (c : Call) → Fit s c → Framed s → Lengths s → (a : ℕ) → Balanced s a → Balanced (effect c s) a
-unfolding effect balancesAfter inboxEdit edited outsideAfter deposited withdrawn sent settledOne
-balanced-kept s (Call.Deposit d) k f l a h =
+pub balanced_kept : (s : State) (c : Call) → Fit s c → Framed s → Lengths s → (a : ℕ) → Balanced s a → Balanced (effect c s) a
+unfolding effect balances_after inbox_edit edited outside_after deposited withdrawn sent settled_one
+balanced_kept s (Call.Deposit d) k f l a h =
     omega (
       arith,
       total-raised s.outside.lifetime d.asset d.amount l.lifetime k.asset a,
-      sum-append (depositedIn a) s.inbox (d ∷ []),
-      sum_one (depositedIn a) d,
+      sum-append (deposited_in a) s.inbox (d ∷ []),
+      sum_one (deposited_in a) d,
     )
-balanced-kept s (Call.Claim c) k f l a h =
+balanced_kept s (Call.Claim c) k f l a h =
     let i : ℕ = index_of (matches c) s.inbox in
     let m : Matched c (claimed c s.inbox) = matched c s.inbox k.found in
-    let e : depositedIn a (claimed c s.inbox) ≡ cond (eqb c.asset a) c.amount 0 = rw (m.asset, m.amount) in
+    let e : deposited_in a (claimed c s.inbox) ≡ cond (eqb c.asset a) c.amount 0 = rw (m.asset, m.amount) in
     omega (
       arith,
-      sum-without (depositedIn a) s.inbox i noDeposit (found_in (matches c) s.inbox k.found),
+      sum_without (deposited_in a) s.inbox i no_deposit (found_in (matches c) s.inbox k.found),
       sum-credit s.balances c.member c.asset c.amount l.balances k.member k.asset a,
     )
-balanced-kept s (Call.Transfer t) k f l a h =
+balanced_kept s (Call.Transfer t) k f l a h =
     let bs : List ℕ = debit s.balances t.from t.asset t.amount in
     omega (
       arith,
       sum-debit s.balances t.from t.asset t.amount l.balances k.from k.asset k.enough a,
       sum-credit bs t.to t.asset t.amount (length-debit s.balances t.from t.asset t.amount ∙ l.balances) k.to k.asset a,
     )
-balanced-kept s (Call.Withdraw w) k f l a h =
+balanced_kept s (Call.Withdraw w) k f l a h =
     let o : Outside = s.outside in
-    let p : Payment = paymentOf w o.next in
+    let p : Payment = payment_of w o.next in
     omega (
       arith,
       sum-debit s.balances w.member w.asset w.amount l.balances k.member k.asset k.enough a,
-      sum-append (paidIn a) o.inflight o.waiting,
-      sum-append (paidIn a) o.inflight (o.waiting ++ (p ∷ [])),
-      sum-append (paidIn a) o.waiting (p ∷ []),
-      sum_one (paidIn a) p,
+      sum-append (paid_in a) o.inflight o.waiting,
+      sum-append (paid_in a) o.inflight (o.waiting ++ (p ∷ [])),
+      sum-append (paid_in a) o.waiting (p ∷ []),
+      sum_one (paid_in a) p,
     )
-balanced-kept s Call.Send k f l a h = omega (arith, ap (sum_of (paidIn a)) (sent-payments s.outside))
-balanced-kept s (Call.Settle n) k f l a h =
+balanced_kept s Call.Send k f l a h = omega (arith, ap (sum_of (paid_in a)) (sent-payments s.outside))
+balanced_kept s (Call.Settle n) k f l a h =
     let o : Outside = s.outside in
     let p : Payment = oldest o.inflight in
     omega (
       arith,
-      total-raised o.settled p.asset p.amount l.settled (oldest-in o.inflight o.waiting k.some f.outboxFields) a,
-      sum-append (paidIn a) o.inflight o.waiting,
-      sum-append (paidIn a) (drop 1 o.inflight) o.waiting,
-      oldest-sum (paidIn a) o.inflight k.some,
+      total-raised o.settled p.asset p.amount l.settled (oldest_in o.inflight o.waiting k.some f.outbox_fields) a,
+      sum-append (paid_in a) o.inflight o.waiting,
+      sum-append (paid_in a) (drop 1 o.inflight) o.waiting,
+      oldest-sum (paid_in a) o.inflight k.some,
     )
-balanced-kept s (Call.Grant g) k f l a h = h
-balanced-kept s (Call.Sign g) k f l a h = h
-balanced-kept s (Call.Trace n) k f l a h = h
+balanced_kept s (Call.Grant g) k f l a h = h
+balanced_kept s (Call.Sign g) k f l a h = h
+balanced_kept s (Call.Trace n) k f l a h = h

@@ -4,27 +4,27 @@ use mathlib.Core.List.{List, []}
 use Rattle.promises.specs.Types.{Call}
 use Rattle.rules.specs.State.{Book, view}
 use Rattle.rules.specs.Runs.{run, depositing, sending, settling, deposits, sends, settlements}
-use Rattle.rules.specs.Sheet.{acceptedDeposits, settledSum}
+use Rattle.rules.specs.Sheet.{accepted_deposits, settled_sum}
 use Rattle.promises.specs.Demand2.{queueing, queued}
 use Rattle.promises.specs.Started.{Started, TotalsSince, OrderSince, Since}
-use Rattle.promises.proofs.Reached.{started-run, started-keeps}
-use Rattle.promises.proofs.Order.{Deposited, none-deposited, deposits-log, Paid, none-paid, payments-log, Numbered, none-numbered, nonces-log}
-use Rattle.promises.proofs.Payments.{records-run, queued-nth}
+use Rattle.promises.proofs.Reached.{started-run, started_keeps}
+use Rattle.promises.proofs.Order.{Deposited, none-deposited, deposits_log, Paid, none-paid, payments_log, Numbered, none-numbered, nonces_log}
+use Rattle.promises.proofs.Payments.{records-run, queued_nth}
 use Rattle.promises.proofs.Unclaimed.{unclaimed-left}
 use Rattle.promises.proofs.Traces.{pieces-sourced}
 
 module _ (b : Book) (cs : List Call) (r : Started b) where
   deposited-run : Deposited (view b).outside (deposits b cs) (view (run b cs)).outside
-  deposited-run = started-keeps depositing (λ b c. []) (λ ds (ys : List ℕ) s. Deposited (view b).outside ds s.outside) (deposits-log (view b).outside) b cs r (none-deposited (view b).outside)
+  deposited-run = started_keeps depositing (λ b c. []) (λ ds (ys : List ℕ) s. Deposited (view b).outside ds s.outside) (deposits_log (view b).outside) b cs r (none-deposited (view b).outside)
 
   paid-run : Paid (view b).outside (sends b cs) (settlements b cs) (view (run b cs)).outside
-  paid-run = started-keeps sending settling (λ ss ts s. Paid (view b).outside ss ts s.outside) (payments-log (view b).outside) b cs r (none-paid (view b).outside)
+  paid-run = started_keeps sending settling (λ ss ts s. Paid (view b).outside ss ts s.outside) (payments_log (view b).outside) b cs r (none-paid (view b).outside)
 
   numbered-run : Numbered (view b).outside (queued b cs) (view (run b cs)).outside
-  numbered-run = started-keeps queueing (λ b c. []) (λ qs (ys : List ℕ) s. Numbered (view b).outside qs s.outside) (nonces-log (view b).outside) b cs r (none-numbered (view b).outside)
+  numbered-run = started_keeps queueing (λ b c. []) (λ qs (ys : List ℕ) s. Numbered (view b).outside qs s.outside) (nonces_log (view b).outside) b cs r (none-numbered (view b).outside)
 
   totals : (a : ℕ) → TotalsSince a b cs
-  unfolding acceptedDeposits settledSum
+  unfolding accepted_deposits settled_sum
   totals a = record { lifetime = deposited-run.lifetime a; settled = paid-run.settled a }
 
   order : OrderSince b cs
@@ -46,6 +46,6 @@ module _ (b : Book) (cs : List Call) (r : Started b) where
         inbox = unclaimed-left b cs r;
         totals = totals;
         order = order;
-        payments = λ n low i. unfold view in queued-nth b cs r n low (rw (← e.agreed.counts) i);
+        payments = λ n low i. unfold view in queued_nth b cs r n low (rw (← e.agreed.counts) i);
         sourced = λ n i. pieces-sourced b cs r n (rw (← e.agreed.counts) i);
       }

@@ -9,11 +9,11 @@ use lib.ListN.{length}
 use lib.Seq.{append_snoc}
 use borrow.Author.Tests.{lt-ltb, le-ltb, eqb-false, not-true}
 use Rattle.promises.specs.Types.{Field}
-use Rattle.rules.specs.Limits.{within, highestField}
+use Rattle.rules.specs.Limits.{within, highest_field}
 use Rattle.rules.specs.Lists.{all}
-use Rattle.rules.specs.Lines.{isDigit, valueAfter, leadingZero, readsAsNumber, number, spelled, decimal}
+use Rattle.rules.specs.Lines.{is_digit, value_after, leading_zero, reads_as_number, number, spelled, decimal}
 use Rattle.rules.specs.Facts.{Within}
-use Rattle.rules.proofs.Tests.{both, within-true}
+use Rattle.rules.proofs.Tests.{both, within_true}
 
 -- the byte of a digit is spelled by itself
 spelled-one : (k b : ℕ) → Within 48 57 b → spelled (suc k) (b - 48) ≡ b ∷ []
@@ -31,20 +31,20 @@ spelled-more k v b h d =
     rw (le-ltb (v * 10 + (b - 48)) 10 (omega arith), tenth, last)
 
 -- so digits behind it go on spelling
-spelled-on : (k v : ℕ) (bs : List ℕ) → 1 ≤ v → all isDigit bs ≡ true → spelled (k + length bs) (valueAfter v bs) ≡ spelled k v ++ bs
-unfolding all valueAfter
-spelled-on k v [] h d =
+spelled_on : (k v : ℕ) (bs : List ℕ) → 1 ≤ v → all is_digit bs ≡ true → spelled (k + length bs) (value_after v bs) ≡ spelled k v ++ bs
+unfolding all value_after
+spelled_on k v [] h d =
     let e : k + 0 ≡ k = omega arith in
     rw (e, append-nil (spelled k v))
-spelled-on k v (b ∷ bs) h d =
-    let (p, q) = both (isDigit b) (all isDigit bs) d in
-    let w : Within 48 57 b = within-true 48 57 b p in
+spelled_on k v (b ∷ bs) h d =
+    let (p, q) = both (is_digit b) (all is_digit bs) d in
+    let w : Within 48 57 b = within_true 48 57 b p in
     let e : k + suc (length bs) ≡ suc k + length bs = omega arith in
-    rw (e, spelled-on (suc k) (v * 10 + (b - 48)) bs (omega arith) q, spelled-more k v b h w) (append_snoc (spelled k v) b bs)
+    rw (e, spelled_on (suc k) (v * 10 + (b - 48)) bs (omega arith) q, spelled-more k v b h w) (append_snoc (spelled k v) b bs)
 
 -- a digit, and digits behind it unless it is 0: as many as a field can have
-spelled-all : (b : ℕ) (bs : List ℕ) → length (b ∷ bs) ≤ 20 → Within 48 57 b → all isDigit bs ≡ true → not (leadingZero (b ∷ bs)) ≡ true → decimal (valueAfter 0 (b ∷ bs)) ≡ b ∷ bs
-unfolding decimal valueAfter
+spelled-all : (b : ℕ) (bs : List ℕ) → length (b ∷ bs) ≤ 20 → Within 48 57 b → all is_digit bs ≡ true → not (leading_zero (b ∷ bs)) ≡ true → decimal (value_after 0 (b ∷ bs)) ≡ b ∷ bs
+unfolding decimal value_after
 spelled-all b [] l w d z =
     let e : 0 * 10 + (b - 48) ≡ b - 48 = omega arith in
     rw e (spelled-one 19 b w)
@@ -54,8 +54,8 @@ spelled-all b (c ∷ cs) l w d z =
     let other : eqb b 48 ≡ false = not-true (eqb b 48) (unled (eqb b 48) (ltb 1 (length (b ∷ c ∷ cs))) z (lt-ltb 1 (length (b ∷ c ∷ cs)) (omega arith))) in
     let some : 1 ≤ b - 48 = omega (arith, eqb-false b 48 other) in
     rw e
-    (ap (λ (n : ℕ). spelled n (valueAfter (b - 48) (c ∷ cs))) k
-    ∙ spelled-on (suc (19 - length (c ∷ cs))) (b - 48) (c ∷ cs) some d
+    (ap (λ (n : ℕ). spelled n (value_after (b - 48) (c ∷ cs))) k
+    ∙ spelled_on (suc (19 - length (c ∷ cs))) (b - 48) (c ∷ cs) some d
     ∙ rw (spelled-one (19 - length (c ∷ cs)) b w))
   where
     unled : (t u : Bool) → not (t && u) ≡ true → u ≡ true → not t ≡ true
@@ -63,25 +63,25 @@ spelled-all b (c ∷ cs) l w d z =
     unled false u h e = refl
 
 -- what reads as a number is its digits
-decimal-value : (f : List ℕ) → readsAsNumber f ≡ true → (decimal (valueAfter 0 f) ≡ f) × (leb (valueAfter 0 f) highestField ≡ true)
-unfolding readsAsNumber all
-decimal-value [] h = absurd (false≢true h)
-decimal-value (b ∷ bs) h =
-    let (l, r) = both (within 1 20 (length (b ∷ bs))) (all isDigit (b ∷ bs) && (not (leadingZero (b ∷ bs)) && leb (valueAfter 0 (b ∷ bs)) highestField)) h in
-    let (d, t) = both (all isDigit (b ∷ bs)) (not (leadingZero (b ∷ bs)) && leb (valueAfter 0 (b ∷ bs)) highestField) r in
-    let (z, m) = both (not (leadingZero (b ∷ bs))) (leb (valueAfter 0 (b ∷ bs)) highestField) t in
-    let (p, q) = both (isDigit b) (all isDigit bs) d in
-    (spelled-all b bs (within-true 1 20 (length (b ∷ bs)) l).high (within-true 48 57 b p) q z, m)
+decimal_value : (f : List ℕ) → reads_as_number f ≡ true → (decimal (value_after 0 f) ≡ f) × (leb (value_after 0 f) highest_field ≡ true)
+unfolding reads_as_number all
+decimal_value [] h = absurd (false≢true h)
+decimal_value (b ∷ bs) h =
+    let (l, r) = both (within 1 20 (length (b ∷ bs))) (all is_digit (b ∷ bs) && (not (leading_zero (b ∷ bs)) && leb (value_after 0 (b ∷ bs)) highest_field)) h in
+    let (d, t) = both (all is_digit (b ∷ bs)) (not (leading_zero (b ∷ bs)) && leb (value_after 0 (b ∷ bs)) highest_field) r in
+    let (z, m) = both (not (leading_zero (b ∷ bs))) (leb (value_after 0 (b ∷ bs)) highest_field) t in
+    let (p, q) = both (is_digit b) (all is_digit bs) d in
+    (spelled-all b bs (within_true 1 20 (length (b ∷ bs)) l).high (within_true 48 57 b p) q z, m)
 
 -- a field that is read as a number
-pub number_spelled : (k : ℕ) (f : List ℕ) (n : ℕ) → number k f ≡ Field.Number n → (f ≡ decimal n) × (leb n highestField ≡ true)
+pub number_spelled : (k : ℕ) (f : List ℕ) (n : ℕ) → number k f ≡ Field.Number n → (f ≡ decimal n) × (leb n highest_field ≡ true)
 unfolding number
-number_spelled k f n h = go (readsAsNumber f) refl h
+number_spelled k f n h = go (reads_as_number f) refl h
   where
-    go : (t : Bool) → readsAsNumber f ≡ t → cond t (Field.Number (valueAfter 0 f)) (Field.FailsAt k) ≡ Field.Number n → (f ≡ decimal n) × (leb n highestField ≡ true)
+    go : (t : Bool) → reads_as_number f ≡ t → cond t (Field.Number (value_after 0 f)) (Field.FailsAt k) ≡ Field.Number n → (f ≡ decimal n) × (leb n highest_field ≡ true)
     go true e q =
-        let v : valueAfter 0 f ≡ n = cc in
-        let (d, m) = decimal-value f e in
+        let v : value_after 0 f ≡ n = cc in
+        let (d, m) = decimal_value f e in
         (rw (← v, d), rw v at m)
     go false e q =
         let z : ◌≡◌ {A = ℕ} 0 1 = cc in

@@ -9,12 +9,12 @@ use lib.Dec.{eqb}
 use lib.ListN.{length, get_or, take, drop, take-append-drop}
 use lib.Seq.{drop-cons}
 use borrow.Author.Tests.{eqb-true, eqb-false, ne_eqb}
-use Rattle.rules.specs.Limits.{memberCount, assetCount}
+use Rattle.rules.specs.Limits.{member_count, asset_count}
 use Rattle.rules.specs.Lists.{any, index_of, sum_of}
 use Rattle.rules.specs.Effects.{balance, credit, debit}
 use Rattle.rules.specs.Sheet.{up_from}
 use Rattle.rules.specs.Facts.{Within}
-use Rattle.rules.proofs.Tests.{both, true-within}
+use Rattle.rules.proofs.Tests.{both, true_within}
 use Rattle.lots.proofs.ListLaws.{sum-append}
 use Rattle.lots.proofs.BalanceLaws.{balance-credit, balance-debit}
 
@@ -25,15 +25,15 @@ module _ {A : Type 0} where
   sum_one f x = omega arith
 
   -- a number that is two others for each element sums to their sums
-  pub sum-parts : (h f g : A → ℕ) → ((x : A) → h x ≡ f x + g x) → (xs : List A) → sum_of h xs ≡ sum_of f xs + sum_of g xs
+  pub sum_parts : (h f g : A → ℕ) → ((x : A) → h x ≡ f x + g x) → (xs : List A) → sum_of h xs ≡ sum_of f xs + sum_of g xs
   unfolding sum_of
-  sum-parts h f g e [] = refl
-  sum-parts h f g e (x ∷ xs) = rw (sum-parts h f g e xs, e x) (omega arith)
+  sum_parts h f g e [] = refl
+  sum_parts h f g e (x ∷ xs) = rw (sum_parts h f g e xs, e x) (omega arith)
 
   -- the element at a place, and the rest without it
-  pub sum-without : (f : A → ℕ) (xs : List A) (i : ℕ) (d : A) → i < length xs → sum_of f xs ≡ sum_of f (take i xs ++ drop (suc i) xs) + f (get_or xs i d)
+  pub sum_without : (f : A → ℕ) (xs : List A) (i : ℕ) (d : A) → i < length xs → sum_of f xs ≡ sum_of f (take i xs ++ drop (suc i) xs) + f (get_or xs i d)
   unfolding sum_of
-  sum-without f xs i d h =
+  sum_without f xs i d h =
       let e : sum_of f (take i xs ++ drop i xs) ≡ sum_of f (take i xs) + (f (get_or xs i d) + sum_of f (drop (suc i) xs)) =
       sum-append f (take i xs) (drop i xs) ∙ rw (drop-cons xs i d h) in
       let g : sum_of f (take i xs ++ drop (suc i) xs) ≡ sum_of f (take i xs) + sum_of f (drop (suc i) xs) = sum-append f (take i xs) (drop (suc i) xs) in
@@ -85,13 +85,13 @@ one-member m first (suc n) x t l h = go (eqb m first) refl (λ d. one-member m (
 
 -- all members' balances in an asset
 abbrev pub all_of : ℕ → List ℕ → ℕ
-all_of b bs = sum_of (λ n. balance bs n b) (up_from 1 memberCount)
+all_of b bs = sum_of (λ n. balance bs n b) (up_from 1 member_count)
 
-module _ (bs : List ℕ) (m a x : ℕ) (size : length bs ≡ memberCount * assetCount) (hm : Within 1 memberCount m) (ha : Within 1 assetCount a) where
+module _ (bs : List ℕ) (m a x : ℕ) (size : length bs ≡ member_count * asset_count) (hm : Within 1 member_count m) (ha : Within 1 asset_count a) where
   -- a credit adds its amount to the sum of its asset
   pub sum-credit : (b : ℕ) → all_of b (credit bs m a x) ≡ all_of b bs + cond (eqb a b) x 0
   sum-credit b =
-      sum-parts (λ n. balance (credit bs m a x) n b) (λ n. balance bs n b) (λ n. cond (eqb m n && eqb a b) x 0) each (up_from 1 16)
+      sum_parts (λ n. balance (credit bs m a x) n b) (λ n. balance bs n b) (λ n. cond (eqb m n && eqb a b) x 0) each (up_from 1 16)
       ∙ ap (λ (r : ℕ). all_of b bs + r) (one-member m 1 16 x (eqb a b) (omega arith) (omega arith))
     where
       go : (t : Bool) (v : ℕ) → cond t (v + x) v ≡ v + cond t x 0
@@ -99,12 +99,12 @@ module _ (bs : List ℕ) (m a x : ℕ) (size : length bs ≡ memberCount * asset
       go false v = omega arith
 
       each : (n : ℕ) → balance (credit bs m a x) n b ≡ balance bs n b + cond (eqb m n && eqb a b) x 0
-      each n = balance-credit bs m a x n b size (true-within 1 16 m hm) (true-within 1 8 a ha) ∙ go (eqb m n && eqb a b) (balance bs n b)
+      each n = balance-credit bs m a x n b size (true_within 1 16 m hm) (true_within 1 8 a ha) ∙ go (eqb m n && eqb a b) (balance bs n b)
 
   -- a debit takes its amount from the sum of its asset
   pub sum-debit : x ≤ balance bs m a → (b : ℕ) → all_of b bs ≡ all_of b (debit bs m a x) + cond (eqb a b) x 0
   sum-debit enough b =
-      sum-parts (λ n. balance bs n b) (λ n. balance (debit bs m a x) n b) (λ n. cond (eqb m n && eqb a b) x 0) each (up_from 1 16)
+      sum_parts (λ n. balance bs n b) (λ n. balance (debit bs m a x) n b) (λ n. cond (eqb m n && eqb a b) x 0) each (up_from 1 16)
       ∙ ap (λ (r : ℕ). all_of b (debit bs m a x) + r) (one-member m 1 16 x (eqb a b) (omega arith) (omega arith))
     where
       go : (n : ℕ) (t : Bool) → eqb m n && eqb a b ≡ t → balance bs n b ≡ cond t (balance bs n b - x) (balance bs n b) + cond t x 0
@@ -115,7 +115,7 @@ module _ (bs : List ℕ) (m a x : ℕ) (size : length bs ≡ memberCount * asset
       go n false e = omega arith
 
       each : (n : ℕ) → balance bs n b ≡ balance (debit bs m a x) n b + cond (eqb m n && eqb a b) x 0
-      each n = go n (eqb m n && eqb a b) refl ∙ ap (λ (v : ℕ). v + cond (eqb m n && eqb a b) x 0) (sym (balance-debit bs m a x n b size (true-within 1 16 m hm) (true-within 1 8 a ha)))
+      each n = go n (eqb m n && eqb a b) refl ∙ ap (λ (v : ℕ). v + cond (eqb m n && eqb a b) x 0) (sym (balance-debit bs m a x n b size (true_within 1 16 m hm) (true_within 1 8 a ha)))
 
 -- one member's balance is at most all members'
 pub in_sum : (f : ℕ → ℕ) (m first n : ℕ) → first ≤ m → m < first + n → f m ≤ sum_of f (up_from first n)

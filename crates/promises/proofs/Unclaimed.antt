@@ -11,19 +11,19 @@ use Rattle.promises.specs.Types.{Deposit, ClaimFields, Call}
 use Rattle.rules.specs.Lists.{all, any, those, index_of}
 use Rattle.rules.specs.Tables.{edited}
 use Rattle.rules.specs.State.{State, Book, view}
-use Rattle.rules.specs.Effects.{effect, matches, inboxEdit, deposited, withdrawn, sent, settledOne, outsideAfter}
-use Rattle.rules.specs.Frame.{numbersRise}
+use Rattle.rules.specs.Effects.{effect, matches, inbox_edit, deposited, withdrawn, sent, settled_one, outside_after}
+use Rattle.rules.specs.Frame.{numbers_rise}
 use Rattle.rules.specs.Runs.{run, depositing, deposits}
 use Rattle.rules.specs.Facts.{Accepted, DepositFit, ClaimFit}
 use Rattle.rules.proofs.Tests.{both}
-use Rattle.rules.proofs.Digits.{all_append, all-imply}
+use Rattle.rules.proofs.Digits.{all_append, all_imply}
 use Rattle.rules.proofs.Accepts.{fit}
 use Rattle.lots.proofs.ListLaws.{those-append, any_append}
-use Rattle.promises.specs.Demand2.{claiming, claims, isClaimed}
+use Rattle.promises.specs.Demand2.{claiming, claims, is_claimed}
 use Rattle.promises.proofs.Framed.{framed}
-use Rattle.promises.proofs.InboxFrame.{rise-parts}
+use Rattle.promises.proofs.InboxFrame.{rise_parts}
 use Rattle.promises.specs.Started.{Started}
-use Rattle.promises.proofs.Reached.{started-keeps}
+use Rattle.promises.proofs.Reached.{started_keeps}
 
 -- ---- a claim and a deposit
 -- a claim takes a deposit with its own number
@@ -39,38 +39,38 @@ unfolding matches
 other-number c d h = rw (ne_eqb d.number.0 c.number.0 (λ e. omega arith))
 
 -- ---- one claim, of rows whose numbers rise
-abbrev isLeft : ClaimFields → Deposit → Bool
-isLeft c d = not (matches c d)
+abbrev is_left : ClaimFields → Deposit → Bool
+is_left c d = not (matches c d)
 
 -- it takes none of those whose numbers are above its own
-left-above : (c : ClaimFields) (before last : ℕ) (ds : List Deposit) → numbersRise before last ds ≡ true → c.number.0 ≤ before → those (isLeft c) ds ≡ ds
+left_above : (c : ClaimFields) (before last : ℕ) (ds : List Deposit) → numbers_rise before last ds ≡ true → c.number.0 ≤ before → those (is_left c) ds ≡ ds
 unfolding those
-left-above c before last [] h l = refl
-left-above c before last (d ∷ ds) h l =
-    let (p, q, r) = rise-parts before last d ds h in
-    rw (other-number c d (omega arith), left-above c d.number.0 last ds r (omega arith))
+left_above c before last [] h l = refl
+left_above c before last (d ∷ ds) h l =
+    let (p, q, r) = rise_parts before last d ds h in
+    rw (other-number c d (omega arith), left_above c d.number.0 last ds r (omega arith))
 
 -- so with the first row taken out that it matches, those are left that it does not match
-taken_out : (c : ClaimFields) (before last : ℕ) (ds : List Deposit) → numbersRise before last ds ≡ true
-    → take (index_of (matches c) ds) ds ++ drop (suc (index_of (matches c) ds)) ds ≡ those (isLeft c) ds
+taken_out : (c : ClaimFields) (before last : ℕ) (ds : List Deposit) → numbers_rise before last ds ≡ true
+    → take (index_of (matches c) ds) ds ++ drop (suc (index_of (matches c) ds)) ds ≡ those (is_left c) ds
 unfolding those index_of
 taken_out c before last [] h = refl
 taken_out c before last (d ∷ ds) h =
-    let (p, q, r) = rise-parts before last d ds h in
-    go (matches c d) refl (taken_out c d.number.0 last ds r) (left-above c d.number.0 last ds r)
+    let (p, q, r) = rise_parts before last d ds h in
+    go (matches c d) refl (taken_out c d.number.0 last ds r) (left_above c d.number.0 last ds r)
   where
-    go : (t : Bool) → matches c d ≡ t → take (index_of (matches c) ds) ds ++ drop (suc (index_of (matches c) ds)) ds ≡ those (isLeft c) ds
-        → (c.number.0 ≤ d.number.0 → those (isLeft c) ds ≡ ds)
-        → take (cond t 0 (suc (index_of (matches c) ds))) (d ∷ ds) ++ drop (suc (cond t 0 (suc (index_of (matches c) ds)))) (d ∷ ds) ≡ cond (not t) (d ∷ those (isLeft c) ds) (those (isLeft c) ds)
+    go : (t : Bool) → matches c d ≡ t → take (index_of (matches c) ds) ds ++ drop (suc (index_of (matches c) ds)) ds ≡ those (is_left c) ds
+        → (c.number.0 ≤ d.number.0 → those (is_left c) ds ≡ ds)
+        → take (cond t 0 (suc (index_of (matches c) ds))) (d ∷ ds) ++ drop (suc (cond t 0 (suc (index_of (matches c) ds)))) (d ∷ ds) ≡ cond (not t) (d ∷ those (is_left c) ds) (those (is_left c) ds)
     go true e ih above = sym (above (omega (arith, matches-number c d e)))
     go false e ih above = ap (λ (r : List Deposit). d ∷ r) ih
 
 -- and a row that it matches has a number up to the last
-found-low : (c : ClaimFields) (before last : ℕ) (ds : List Deposit) → numbersRise before last ds ≡ true → any (matches c) ds ≡ true → c.number.0 ≤ last
+found-low : (c : ClaimFields) (before last : ℕ) (ds : List Deposit) → numbers_rise before last ds ≡ true → any (matches c) ds ≡ true → c.number.0 ≤ last
 unfolding any
 found-low c before last [] h f = absurd (false≢true f)
 found-low c before last (d ∷ ds) h f =
-    let (p, q, r) = rise-parts before last d ds h in
+    let (p, q, r) = rise_parts before last d ds h in
     go (matches c d) refl f (found-low c d.number.0 last ds r) q
   where
     go : (t : Bool) → matches c d ≡ t → t || any (matches c) ds ≡ true → (any (matches c) ds ≡ true → c.number.0 ≤ last) → d.number.0 ≤ last → c.number.0 ≤ last
@@ -79,7 +79,7 @@ found-low c before last (d ∷ ds) h f =
 
 -- ---- all claims
 -- no claim of a number up to the last takes a deposit above it
-fresh : (ks : List ClaimFields) (last : ℕ) (d : Deposit) → all (λ c. leb c.number.0 last) ks ≡ true → last < d.number.0 → isClaimed ks d ≡ false
+fresh : (ks : List ClaimFields) (last : ℕ) (d : Deposit) → all (λ c. leb c.number.0 last) ks ≡ true → last < d.number.0 → is_claimed ks d ≡ false
 unfolding all any
 fresh [] last d h l = refl
 fresh (c ∷ ks) last d h l =
@@ -87,19 +87,19 @@ fresh (c ∷ ks) last d h l =
     rw (other-number c d (omega (arith, leb-true c.number.0 last p)), fresh ks last d q l)
 
 -- what one claim more leaves is what it leaves of what the others left
-those-twice : {A : Type 0} (p q r : A → Bool) → ((x : A) → p x ≡ q x && r x) → (xs : List A) → those p xs ≡ those r (those q xs)
+those_twice : {A : Type 0} (p q r : A → Bool) → ((x : A) → p x ≡ q x && r x) → (xs : List A) → those p xs ≡ those r (those q xs)
 unfolding those
-those-twice p q r h [] = refl
-those-twice {A} p q r h (x ∷ xs) = rw (h x) (go (q x) (r x) refl (those-twice p q r h xs))
+those_twice p q r h [] = refl
+those_twice {A} p q r h (x ∷ xs) = rw (h x) (go (q x) (r x) refl (those_twice p q r h xs))
   where
     go : (t u : Bool) → r x ≡ u → those p xs ≡ those r (those q xs) → cond (t && u) (x ∷ those p xs) (those p xs) ≡ those r (cond t (x ∷ those q xs) (those q xs))
     go true true e ih = rw e (ap (λ (l : List A). x ∷ l) ih)
     go true false e ih = rw e ih
     go false u e ih = ih
 
-one_more : (ks : List ClaimFields) (c : ClaimFields) (d : Deposit) → not (isClaimed (ks ++ (c ∷ [])) d) ≡ not (isClaimed ks d) && isLeft c d
+one_more : (ks : List ClaimFields) (c : ClaimFields) (d : Deposit) → not (is_claimed (ks ++ (c ∷ [])) d) ≡ not (is_claimed ks d) && is_left c d
 unfolding any
-one_more ks c d = rw (any_append (λ k. matches k d) ks (c ∷ []), or-false (matches c d)) (go (isClaimed ks d) (matches c d))
+one_more ks c d = rw (any_append (λ k. matches k d) ks (c ∷ []), or-false (matches c d)) (go (is_claimed ks d) (matches c d))
   where
     go : (t u : Bool) → not (t || u) ≡ not t && not u
     go true u = refl
@@ -107,7 +107,7 @@ one_more ks c d = rw (any_append (λ k. matches k d) ks (c ∷ []), or-false (ma
 
 -- ---- the invariant: the inbox is what was there and the deposits so far, less what the claims so far took, and no claim has a number above the last
 record Left (first ds : List Deposit) (ks : List ClaimFields) (s : State) : Type 0 where
-  inbox : s.inbox ≡ those (λ d. not (isClaimed ks d)) (first ++ ds)
+  inbox : s.inbox ≡ those (λ d. not (is_claimed ks d)) (first ++ ds)
   low : all (λ c. leb c.number.0 s.outside.last.0) ks ≡ true
 
 module _ (first : List Deposit) where
@@ -118,36 +118,36 @@ module _ (first : List Deposit) where
   -- a deposit, with a number that no claim has
   left-deposit : (ds : List Deposit) (ks : List ClaimFields) (s : State) (d : Deposit) → d.number.0 ≡ s.outside.last.0 + 1 → Left first ds ks s
       → Left first (ds ++ (d ∷ [])) (ks ++ []) (effect (Call.Deposit d) s)
-  unfolding effect inboxEdit edited outsideAfter deposited
+  unfolding effect inbox_edit edited outside_after deposited
   left-deposit ds ks s d n h =
       rw (append-nil ks)
       record {
         inbox =
-            rw (h.inbox, ← append_assoc first ds (d ∷ []), those-append (λ e. not (isClaimed ks e)) (first ++ ds) (d ∷ []))
+            rw (h.inbox, ← append_assoc first ds (d ∷ []), those-append (λ e. not (is_claimed ks e)) (first ++ ds) (d ∷ []))
             (unfold those in rw (fresh ks s.outside.last.0 d h.low (omega arith)));
         low =
-            all-imply (λ c. leb c.number.0 s.outside.last.0) (λ c. leb c.number.0 d.number.0)
+            all_imply (λ c. leb c.number.0 s.outside.last.0) (λ c. leb c.number.0 d.number.0)
             (λ c e. le-leb c.number.0 d.number.0 (omega (arith, leb-true c.number.0 s.outside.last.0 e))) ks h.low;
       }
 
   -- a claim, of a row of the inbox
-  left-claim : (ds : List Deposit) (ks : List ClaimFields) (s : State) (c : ClaimFields) → numbersRise 0 s.outside.last.0 s.inbox ≡ true → any (matches c) s.inbox ≡ true → Left first ds ks s
+  left-claim : (ds : List Deposit) (ks : List ClaimFields) (s : State) (c : ClaimFields) → numbers_rise 0 s.outside.last.0 s.inbox ≡ true → any (matches c) s.inbox ≡ true → Left first ds ks s
       → Left first (ds ++ []) (ks ++ (c ∷ [])) (effect (Call.Claim c) s)
-  unfolding effect inboxEdit edited outsideAfter
+  unfolding effect inbox_edit edited outside_after
   left-claim ds ks s c rise found h =
       rw (append-nil ds)
       record {
         inbox =
             taken_out c 0 s.outside.last.0 s.inbox rise
-            ∙ ap (those (isLeft c)) h.inbox
-            ∙ sym (those-twice (λ d. not (isClaimed (ks ++ (c ∷ [])) d)) (λ d. not (isClaimed ks d)) (isLeft c) (one_more ks c) (first ++ ds));
+            ∙ ap (those (is_left c)) h.inbox
+            ∙ sym (those_twice (λ d. not (is_claimed (ks ++ (c ∷ [])) d)) (λ d. not (is_claimed ks d)) (is_left c) (one_more ks c) (first ++ ds));
         low = rw (all_append (λ k. leb k.number.0 s.outside.last.0) ks (c ∷ []), h.low) (unfold all in rw (le-leb c.number.0 s.outside.last.0 (found-low c 0 s.outside.last.0 s.inbox rise found)));
       }
 
   -- every accepted call keeps it
   left-kept : (ds : List Deposit) (ks : List ClaimFields) (b : Book) (c : Call) → Accepted b c → Started b → Left first ds ks (view b)
       → Left first (ds ++ depositing b c) (ks ++ claiming b c) (effect c (view b))
-  unfolding depositing claiming effect inboxEdit edited outsideAfter withdrawn sent settledOne
+  unfolding depositing claiming effect inbox_edit edited outside_after withdrawn sent settled_one
   left-kept ds ks b (Call.Deposit d) a r h =
       let k : DepositFit (view b) d = fit b (Call.Deposit d) a in
       left-deposit ds ks (view b) d k.next h
@@ -163,14 +163,14 @@ module _ (first : List Deposit) where
   left-kept ds ks b (Call.Trace n) a r h = carried ds ks (view b) (effect (Call.Trace n) (view b)) refl refl h
 
 -- no claim leaves all
-unclaimed-yet : (ds : List Deposit) → those (λ d. not (isClaimed [] d)) ds ≡ ds
+unclaimed_yet : (ds : List Deposit) → those (λ d. not (is_claimed [] d)) ds ≡ ds
 unfolding those any
-unclaimed-yet [] = refl
-unclaimed-yet (d ∷ ds) = ap (λ (r : List Deposit). d ∷ r) (unclaimed-yet ds)
+unclaimed_yet [] = refl
+unclaimed_yet (d ∷ ds) = ap (λ (r : List Deposit). d ∷ r) (unclaimed_yet ds)
 
 -- after any calls
-pub unclaimed-left : (b : Book) (cs : List Call) → Started b → (view (run b cs)).inbox ≡ those (λ d. not (isClaimed (claims b cs) d)) ((view b).inbox ++ deposits b cs)
-unclaimed-left b cs r = (started-keeps depositing claiming (Left (view b).inbox) (left-kept (view b).inbox) b cs r start).inbox
+pub unclaimed-left : (b : Book) (cs : List Call) → Started b → (view (run b cs)).inbox ≡ those (λ d. not (is_claimed (claims b cs) d)) ((view b).inbox ++ deposits b cs)
+unclaimed-left b cs r = (started_keeps depositing claiming (Left (view b).inbox) (left-kept (view b).inbox) b cs r start).inbox
   where
     start : Left (view b).inbox [] [] (view b)
-    start = record { inbox = sym (unclaimed-yet ((view b).inbox ++ []) ∙ append-nil (view b).inbox); low = unfold all in refl }
+    start = record { inbox = sym (unclaimed_yet ((view b).inbox ++ []) ∙ append-nil (view b).inbox); low = unfold all in refl }

@@ -1,9 +1,9 @@
 // The test of a history: every used record, each at its point of the replay.
 ghost use Rattle.std.specs.Prelude.{◌≡◌, ◌+◌, ◌-◌, ◌≤◌, ◌<◌, set};
 ghost use Rattle.rules.specs.Effects.{balance, credit, debit};
-ghost use Rattle.rules.specs.History.{standingAfter};
+ghost use Rattle.rules.specs.History.{standing_after};
 ghost use Rattle.rules.specs.History.{fits as recordFits};
-ghost use Rattle.records.specs.Test.{standing, Cell, CanFollow, historyFrame};
+ghost use Rattle.records.specs.Test.{standing, Cell, CanFollow, history_frame};
 
 use crate::record_at;
 use desk::fields::{
@@ -15,7 +15,7 @@ use rules::rows::Record;
 // Whether the first `records` rows of the table are a history in frame: "The whole used history is
 // tested." More records than a history can have, or than the table has rows, are none.
 pub fn history_in_frame(history: &[u64], records: usize) -> bool
-    ensures { result ≡ historyFrame history.now records }
+    ensures { result ≡ history_frame history.now records }
 {
     if HISTORY_ROWS < records {
         return false;
@@ -77,7 +77,7 @@ fn fits(balances: &[u64; 128], holders: &[u64; 8], r: Record) -> bool
 // What a record that fits leaves to the next.
 fn follow(balances: &mut [u64; 128], holders: &mut [u64; 8], r: Record)
     requires { CanFollow balances.old holders.old r }
-    ensures { standing balances.new holders.new ≡ standingAfter (standing balances.old holders.old) r }
+    ensures { standing balances.new holders.new ≡ standing_after (standing balances.old holders.old) r }
 {
     let kind = r.kind;
     match kind {

@@ -4,11 +4,11 @@ pub mod frame;
 pub mod origin;
 
 ghost use Rattle.std.specs.Prelude.{◌≡◌, ◌&&◌, ◌+◌, ◌*◌, get_or};
-ghost use Rattle.rules.specs.Tables.{recordShape};
-ghost use Rattle.rules.specs.State.{historyOf};
-ghost use Rattle.rules.specs.Frame.{inFrame};
-ghost use Rattle.rules.specs.History.{historyInFrame};
-ghost use Rattle.rules.specs.Answer.{bookOf};
+ghost use Rattle.rules.specs.Tables.{record_shape};
+ghost use Rattle.rules.specs.State.{history_of};
+ghost use Rattle.rules.specs.Frame.{in_frame};
+ghost use Rattle.rules.specs.History.{history_in_frame};
+ghost use Rattle.rules.specs.Answer.{book_of};
 ghost use Rattle.tables.specs.Rows.{row_at};
 
 use crate::frame::history_in_frame;
@@ -19,7 +19,7 @@ use rules::rows::Record;
 
 // The record in row i; what the table does not have of it is zeros.
 pub fn record_at(history: &[u64], i: usize) -> Record
-    ensures { result ≡ row_at recordShape i history.now }
+    ensures { result ≡ row_at record_shape i history.now }
 {
     if i < history.len() / RECORD_WIDTH {
         let at = i * RECORD_WIDTH;
@@ -42,7 +42,7 @@ pub fn record_at(history: &[u64], i: usize) -> Record
 
 // Number k of row i, or 0 where the table ends before it.
 fn number_at(history: &[u64], i: usize, k: usize) -> u64
-    ensures { result ≡ get_or history.now (i * recordShape.width + k) 0 }
+    ensures { result ≡ get_or history.now (i * record_shape.width + k) 0 }
 {
     if history.len() / RECORD_WIDTH < i {
         return 0;
@@ -56,7 +56,7 @@ fn number_at(history: &[u64], i: usize, k: usize) -> u64
 
 // Whether a book is in frame, "for provenance and trace also" its history.
 pub fn book_in_frame(d: Desk, inbox: &[u64], outbox: &[u64], history: &[u64]) -> bool
-    ensures { result ≡ inFrame (bookOf d inbox.now outbox.now history.now) && historyInFrame (historyOf (bookOf d inbox.now outbox.now history.now)) }
+    ensures { result ≡ in_frame (book_of d inbox.now outbox.now history.now) && history_in_frame (history_of (book_of d inbox.now outbox.now history.now)) }
 {
     framed(d, inbox, outbox, history) & history_in_frame(history, d.counts.records)
 }

@@ -1,10 +1,10 @@
 // Provenance, the library's question where a balance comes from.
 ghost use Rattle.std.specs.Prelude.{◌≡◌};
-ghost use Rattle.rules.specs.Tables.{rows_of, recordShape};
-ghost use Rattle.rules.specs.History.{provenanceOf};
+ghost use Rattle.rules.specs.Tables.{rows_of, record_shape};
+ghost use Rattle.rules.specs.History.{provenance_of};
 ghost use Rattle.rules.specs.History.{counted as countedOn};
-ghost use Rattle.rules.specs.Replies.{toldOrigin};
-ghost use Rattle.rules.specs.Answer.{bookOf, provenanceAnswer};
+ghost use Rattle.rules.specs.Replies.{told_origin};
+ghost use Rattle.rules.specs.Answer.{book_of, provenance_answer};
 ghost use Rattle.records.specs.Counts.{CanWork, CanCount};
 
 use crate::{book_in_frame, record_at};
@@ -23,7 +23,7 @@ pub fn provenance(
     member: u64,
     asset: u64,
 ) -> Origin
-    ensures { toldOrigin result ≡ provenanceAnswer (bookOf d inbox.now outbox.now history.now) member asset }
+    ensures { told_origin result ≡ provenance_answer (book_of d inbox.now outbox.now history.now) member asset }
 {
     let framed = book_in_frame(d, inbox, outbox, history);
     if !framed {
@@ -44,7 +44,7 @@ pub fn provenance(
 // "going back through the history, one record fewer each time"
 fn worked_out(history: &[u64], left: usize, member: u64, asset: u64) -> u64
     requires { CanWork history.now left }
-    ensures { result ≡ provenanceOf member asset (rows_of recordShape left history.now) }
+    ensures { result ≡ provenance_of member asset (rows_of record_shape left history.now) }
 {
     if left == 0 {
         return 0;

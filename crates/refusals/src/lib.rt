@@ -2,9 +2,9 @@
 // lists are lent, so that a call whose number is all that it comes to copies no desk.
 ghost use Rattle.std.specs.Prelude.{◌≡◌};
 ghost use Rattle.rules.specs.Replies.{told, plain};
-ghost use Rattle.rules.specs.Answer.{replyNumber, bookOf};
-ghost use Rattle.desk.specs.Kept.{deskWith};
-ghost use Rattle.refusals.specs.Said.{isSign, saysAll, TableTold};
+ghost use Rattle.rules.specs.Answer.{reply_number, book_of};
+ghost use Rattle.desk.specs.Kept.{desk_with};
+ghost use Rattle.refusals.specs.Said.{is_sign, says_all, TableTold};
 
 use desk::answers::is_done;
 use frames::in_frame;
@@ -26,7 +26,7 @@ pub fn call_reply<'a>(
     history: &[u64],
     c: Call,
 ) -> Answer
-    ensures { told result ≡ plain (replyNumber (bookOf (deskWith balances.now holders.now lifetime.now settled.now counts) inbox.now outbox.now history.now) c) }
+    ensures { told result ≡ plain (reply_number (book_of (desk_with balances.now holders.now lifetime.now settled.now counts) inbox.now outbox.now history.now) c) }
 {
     let is_framed = in_frame(
         balances, holders, lifetime, settled, counts, inbox, outbox, history,
@@ -85,13 +85,13 @@ fn table_reply<'a>(
 // Whether the number is all that the call comes to: where it is refused, and where it is a sign, nothing is
 // changed, handed out or told beside it.
 pub fn says_all(c: Call, a: Answer) -> bool
-    ensures { result ≡ saysAll c a }
+    ensures { result ≡ says_all c a }
 {
     !is_done(a) | is_sign(c)
 }
 
 fn is_sign(c: Call) -> bool
-    ensures { result ≡ isSign c }
+    ensures { result ≡ is_sign c }
 {
     match c {
         Call::Deposit(_) => false,

@@ -6,12 +6,12 @@ use Rattle.rules.proofs.Coincide.{both, value}
 use Rattle.replays.specs.contracts.payment_at as payment-at
 use Rattle.replays.specs.contracts.traced as traced
 
-pub payment-at-once : Coincide payment-at.ended (λ M 𝓤. payment-at.clauses 𝓤)
-payment-at-once w x g = value w
+pub payment_at_once : Coincide payment-at.ended (λ M 𝓤. payment-at.clauses 𝓤)
+payment_at_once w x g = value w
 
 -- how many pieces, and every row of the work table and of the pieces'
 abbrev pub OneTrace : Two traced.ended → Type 0
 OneTrace x = (x.result ≡ x.result') × (x.left.1.1.1.0 ≡ x.left'.1.1.1.0) × (x.left.1.1.1.1.1.0 ≡ x.left'.1.1.1.1.1.0)
 
-pub traced-once : AnyTwo traced.ended (λ M 𝓤. traced.clauses 𝓤) OneTrace
-traced-once w x g = both w (λ p q. (once _ p.counts q.counts, once _ p.clears q.clears, once _ p.lays q.lays))
+pub traced_once : AnyTwo traced.ended (λ M 𝓤. traced.clauses 𝓤) OneTrace
+traced_once w x g = both w (λ p q. (once _ p.counts q.counts, once _ p.clears q.clears, once _ p.lays q.lays))

@@ -12,14 +12,14 @@ use borrow.Author.Tests.{eqb-true, ne_eqb, le-leb, lt-leb, leb-true, leb-false, 
 use Rattle.rules.specs.declared.rows.Record.{Record}
 use Rattle.rules.specs.declared.rows.Lot.{Lot}
 use Rattle.rules.specs.Lists.{those}
-use Rattle.rules.specs.Tables.{Shape, rows_of, recordShape, noRecord}
-use Rattle.rules.specs.History.{isWithdrawal, withdrawals}
-use Rattle.rules.specs.Lots.{takenBy, lotsAfter, replay, traceFrom}
+use Rattle.rules.specs.Tables.{Shape, rows_of, record_shape, no_record}
+use Rattle.rules.specs.History.{is_withdrawal, withdrawals}
+use Rattle.rules.specs.Lots.{taken_by, lots_after, replay, trace_from}
 use Rattle.rules.proofs.Laying.{length-rows, take-rows, more}
 use Rattle.rules.proofs.Tests.{both}
 use Rattle.tables.specs.Rows.{row_at}
-use Rattle.tables.proofs.Rest.{rest, rest_all, rest-step, rest_end}
-use Rattle.lots.specs.Traces.{beforePayment, afterPayment, nthWithdrawal, PaymentAt}
+use Rattle.tables.proofs.Rest.{rest, rest_all, rest_step, rest_end}
+use Rattle.lots.specs.Traces.{before_payment, after_payment, nth_withdrawal, PaymentAt}
 use Rattle.lots.proofs.TraceLaws.{payment-at, pieces-at}
 use Rattle.lots.proofs.LotCounts.{replay-count}
 use Rattle.replays.specs.Replaying.{CanReplay, Replays, CanReplayAll, ReplaysAll}
@@ -36,93 +36,93 @@ get_d_rows shape (suc n) (suc i) t d h = get_d_rows shape n i (drop shape.width 
 module _ (t : List ℕ) (records n : ℕ) where
   -- after i records, with so many withdrawals still to pass
   abbrev pub PaymentFrom : ℕ → ℕ → Type 0
-  PaymentFrom due i = length (beforePayment n (rows_of recordShape records t)) ≡ i + length (beforePayment due (rest recordShape records i t))
+  PaymentFrom due i = length (before_payment n (rows_of record_shape records t)) ≡ i + length (before_payment due (rest record_shape records i t))
 
   pub payment-none : PaymentFrom n 0
-  payment-none = rw (rest_all recordShape records t) (omega arith)
+  payment-none = rw (rest_all record_shape records t) (omega arith)
 
-  pub payment-here : (due i : ℕ) → i < records → PaymentFrom due i → isWithdrawal (row_at recordShape i t) && eqb due 0 ≡ true → i ≡ length (beforePayment n (rows_of recordShape records t))
-  unfolding beforePayment
+  pub payment-here : (due i : ℕ) → i < records → PaymentFrom due i → is_withdrawal (row_at record_shape i t) && eqb due 0 ≡ true → i ≡ length (before_payment n (rows_of record_shape records t))
+  unfolding before_payment
   payment-here due i h f e =
-      let (p, q) = both (isWithdrawal (row_at recordShape i t)) (eqb due 0) e in
-      sym (f ∙ rw (rest-step recordShape records i t h, p, q) (omega arith))
+      let (p, q) = both (is_withdrawal (row_at record_shape i t)) (eqb due 0) e in
+      sym (f ∙ rw (rest_step record_shape records i t h, p, q) (omega arith))
 
-  pub payment-goes : (due i : ℕ) → i < records → PaymentFrom due i → isWithdrawal (row_at recordShape i t) && eqb due 0 ≡ false → PaymentFrom (cond (isWithdrawal (row_at recordShape i t)) (due - 1) due) (i + 1)
-  unfolding beforePayment
-  payment-goes due i h f e = f ∙ rw (rest-step recordShape records i t h) (go (isWithdrawal (row_at recordShape i t)) (eqb due 0) e)
+  pub payment_goes : (due i : ℕ) → i < records → PaymentFrom due i → is_withdrawal (row_at record_shape i t) && eqb due 0 ≡ false → PaymentFrom (cond (is_withdrawal (row_at record_shape i t)) (due - 1) due) (i + 1)
+  unfolding before_payment
+  payment_goes due i h f e = f ∙ rw (rest_step record_shape records i t h) (go (is_withdrawal (row_at record_shape i t)) (eqb due 0) e)
     where
       rs : List Record
-      rs = rest recordShape records (i + 1) t
+      rs = rest record_shape records (i + 1) t
 
       go : (p q : Bool) → p && q ≡ false
-          → i + length (cond p (cond q [] (row_at recordShape i t ∷ beforePayment (due - 1) rs)) (row_at recordShape i t ∷ beforePayment due rs))
-          ≡ i + 1 + length (beforePayment (cond p (due - 1) due) rs)
+          → i + length (cond p (cond q [] (row_at record_shape i t ∷ before_payment (due - 1) rs)) (row_at record_shape i t ∷ before_payment due rs))
+          ≡ i + 1 + length (before_payment (cond p (due - 1) due) rs)
       go true true e = absurd (mathlib.Core.Bool.true≢false e)
       go true false e = omega arith
       go false q e = omega arith
 
-  pub payment-end : (due i : ℕ) → i ≡ records → PaymentFrom due i → records ≡ length (beforePayment n (rows_of recordShape records t))
-  unfolding beforePayment
-  payment-end due i e f = sym (f ∙ rw (rest_end recordShape records i t (omega arith)) (omega arith))
+  pub payment_end : (due i : ℕ) → i ≡ records → PaymentFrom due i → records ≡ length (before_payment n (rows_of record_shape records t))
+  unfolding before_payment
+  payment_end due i e f = sym (f ∙ rw (rest_end record_shape records i t (omega arith)) (omega arith))
 
 -- ---- whether there is one
 -- where there are no more withdrawals than n, all records come before it
-all-before : (n : ℕ) (h : List Record) → withdrawals h ≤ n → beforePayment n h ≡ h
-unfolding withdrawals those beforePayment
+all-before : (n : ℕ) (h : List Record) → withdrawals h ≤ n → before_payment n h ≡ h
+unfolding withdrawals those before_payment
 all-before n [] l = refl
-all-before n (r ∷ rs) l = go (isWithdrawal r) l (all-before n rs) (all-before (n - 1) rs)
+all-before n (r ∷ rs) l = go (is_withdrawal r) l (all-before n rs) (all-before (n - 1) rs)
   where
-    go : (p : Bool) → length (cond p (r ∷ those isWithdrawal rs) (those isWithdrawal rs)) ≤ n
-        → (withdrawals rs ≤ n → beforePayment n rs ≡ rs) → (withdrawals rs ≤ n - 1 → beforePayment (n - 1) rs ≡ rs)
-        → cond p (cond (eqb n 0) [] (r ∷ beforePayment (n - 1) rs)) (r ∷ beforePayment n rs) ≡ r ∷ rs
+    go : (p : Bool) → length (cond p (r ∷ those is_withdrawal rs) (those is_withdrawal rs)) ≤ n
+        → (withdrawals rs ≤ n → before_payment n rs ≡ rs) → (withdrawals rs ≤ n - 1 → before_payment (n - 1) rs ≡ rs)
+        → cond p (cond (eqb n 0) [] (r ∷ before_payment (n - 1) rs)) (r ∷ before_payment n rs) ≡ r ∷ rs
     go true l here next = rw (ne_eqb n 0 (λ z. omega arith)) (ap (λ (k : List Record). r ∷ k) (next (omega arith)))
     go false l here next = ap (λ (k : List Record). r ∷ k) (here l)
 
 -- where there are more, not all do
-some_after : (n : ℕ) (h : List Record) → n < withdrawals h → length (beforePayment n h) < length h
+some_after : (n : ℕ) (h : List Record) → n < withdrawals h → length (before_payment n h) < length h
 some_after n h l =
-    omega (arith, ap length (payment-at n h l).whole ∙ length-append (beforePayment n h) (nthWithdrawal n h ∷ afterPayment n h))
+    omega (arith, ap length (payment-at n h l).whole ∙ length-append (before_payment n h) (nth_withdrawal n h ∷ after_payment n h))
 
-pub no-payment : (n : ℕ) (h : List Record) → leb (length h) (length (beforePayment n h)) ≡ leb (withdrawals h) n
-no-payment n h = go (leb (withdrawals h) n) refl
+pub no_payment_lem : (n : ℕ) (h : List Record) → leb (length h) (length (before_payment n h)) ≡ leb (withdrawals h) n
+no_payment_lem n h = go (leb (withdrawals h) n) refl
   where
-    go : (p : Bool) → leb (withdrawals h) n ≡ p → leb (length h) (length (beforePayment n h)) ≡ p
-    go true e = le-leb (length h) (length (beforePayment n h)) (omega (arith, ap length (all-before n h (leb-true (withdrawals h) n e))))
-    go false e = lt-leb (length h) (length (beforePayment n h)) (some_after n h (leb-false (withdrawals h) n e))
+    go : (p : Bool) → leb (withdrawals h) n ≡ p → leb (length h) (length (before_payment n h)) ≡ p
+    go true e = le-leb (length h) (length (before_payment n h)) (omega (arith, ap length (all-before n h (leb-true (withdrawals h) n e))))
+    go false e = lt-leb (length h) (length (before_payment n h)) (some_after n h (leb-false (withdrawals h) n e))
 
 -- ---- the records before it, and its own
-module _ (t : List ℕ) (records n : ℕ) (paid : n < withdrawals (rows_of recordShape records t)) where
+module _ (t : List ℕ) (records n : ℕ) (paid : n < withdrawals (rows_of record_shape records t)) where
   h : List Record
-  h = rows_of recordShape records t
+  h = rows_of record_shape records t
 
   pub place : ℕ
-  place = length (beforePayment n (rows_of recordShape records t))
+  place = length (before_payment n (rows_of record_shape records t))
 
-  pub place_in : length (beforePayment n (rows_of recordShape records t)) < records
-  place_in = omega (arith, some_after n (rows_of recordShape records t) paid, length-rows recordShape records t)
+  pub place_in : length (before_payment n (rows_of record_shape records t)) < records
+  place_in = omega (arith, some_after n (rows_of record_shape records t) paid, length-rows record_shape records t)
 
   -- the pieces are what the record there takes after those before it
-  pub pieces-there : traceFrom [] n (rows_of recordShape records t)
-      ≡ takenBy (row_at recordShape (length (beforePayment n (rows_of recordShape records t))) t) (replay [] (rows_of recordShape (length (beforePayment n (rows_of recordShape records t))) t))
+  pub pieces_there : trace_from [] n (rows_of record_shape records t)
+      ≡ taken_by (row_at record_shape (length (before_payment n (rows_of record_shape records t))) t) (replay [] (rows_of record_shape (length (before_payment n (rows_of record_shape records t))) t))
   unfolding h place
-  pieces-there =
+  pieces_there =
       let p : PaymentAt n h = payment-at n h paid in
-      let before : List Record = beforePayment n h in
-      let w : Record = nthWithdrawal n h in
-      let e : w ≡ row_at recordShape place t =
-      sym (get_or-append_seam before w (afterPayment n h) noRecord) ∙ ap (λ (k : List Record). get_or k place noRecord) (sym p.whole) ∙ get_d_rows recordShape records place t noRecord place_in in
-      let f : before ≡ rows_of recordShape place t =
-      sym (take-append_seam before (w ∷ afterPayment n h)) ∙ ap (take place) (sym p.whole) ∙ take-rows recordShape records place t (omega (arith, place_in)) in
-      pieces-at h (record { 0 = n }) paid ∙ mathlib.Core.Path.ap₂ (λ (x : Record) (y : List Record). takenBy x (replay [] y)) e f
+      let before : List Record = before_payment n h in
+      let w : Record = nth_withdrawal n h in
+      let e : w ≡ row_at record_shape place t =
+      sym (get_or-append_seam before w (after_payment n h) no_record) ∙ ap (λ (k : List Record). get_or k place no_record) (sym p.whole) ∙ get_d_rows record_shape records place t no_record place_in in
+      let f : before ≡ rows_of record_shape place t =
+      sym (take-append_seam before (w ∷ after_payment n h)) ∙ ap (take place) (sym p.whole) ∙ take-rows record_shape records place t (omega (arith, place_in)) in
+      pieces-at h (record { 0 = n }) paid ∙ mathlib.Core.Path.ap₂ (λ (x : Record) (y : List Record). taken_by x (replay [] y)) e f
 
 -- ---- the replay, a record at a time
-replay-last : (h : List Record) (r : Record) (ls : List Lot) → replay ls (h ++ (r ∷ [])) ≡ lotsAfter (replay ls h) r
+replay-last : (h : List Record) (r : Record) (ls : List Lot) → replay ls (h ++ (r ∷ [])) ≡ lots_after (replay ls h) r
 unfolding replay
 replay-last [] r ls = refl
-replay-last (x ∷ h) r ls = replay-last h r (lotsAfter ls x)
+replay-last (x ∷ h) r ls = replay-last h r (lots_after ls x)
 
-replay-rows : (t : List ℕ) (i : ℕ) → replay [] (rows_of recordShape (i + 1) t) ≡ lotsAfter (replay [] (rows_of recordShape i t)) (row_at recordShape i t)
-replay-rows t i = ap (replay []) (rows_last i t) ∙ replay-last (rows_of recordShape i t) (row_at recordShape i t) []
+replay-rows : (t : List ℕ) (i : ℕ) → replay [] (rows_of record_shape (i + 1) t) ≡ lots_after (replay [] (rows_of record_shape i t)) (row_at record_shape i t)
+replay-rows t i = ap (replay []) (rows_last i t) ∙ replay-last (rows_of record_shape i t) (row_at record_shape i t) []
 
 pub replay-none : (t : List ℕ) (work : List Lot) → ReplaysAll 0 t 0 work
 unfolding replay rows_of
@@ -130,16 +130,16 @@ replay-none t work = record { lots = refl; count = refl }
 
 -- never more lots than records
 pub few-lots : (t : List ℕ) (i n : ℕ) (work : List Lot) → ReplaysAll i t n work → n ≤ i
-few-lots t i n work a = omega (arith, a.count, replay-count (rows_of recordShape i t), length-rows recordShape i t)
+few-lots t i n work a = omega (arith, a.count, replay-count (rows_of record_shape i t), length-rows record_shape i t)
 
-pub replay-more : (t : List ℕ) (i used : ℕ) (work : List Lot) → ReplaysAll i t used work → (r : Record) → r ≡ row_at recordShape i t → (n : ℕ) (after : List Lot) → Replays r used work n after → ReplaysAll (i + 1) t n after
+pub replay-more : (t : List ℕ) (i used : ℕ) (work : List Lot) → ReplaysAll i t used work → (r : Record) → r ≡ row_at record_shape i t → (n : ℕ) (after : List Lot) → Replays r used work n after → ReplaysAll (i + 1) t n after
 replay-more t i used work a r e n after q =
-    let s : lotsAfter (take used work) r ≡ replay [] (rows_of recordShape (i + 1) t) = rw (a.lots, e) (sym (replay-rows t i)) in
+    let s : lots_after (take used work) r ≡ replay [] (rows_of record_shape (i + 1) t) = rw (a.lots, e) (sym (replay-rows t i)) in
     record { lots = q.lots ∙ s; count = q.count ∙ ap length s }
 
 -- there is room for one record more
-pub can-replay : (t : List ℕ) (work₀ held₀ : List Lot) (at i used : ℕ) (work held : List Lot) → CanReplayAll at work₀ held₀ → i < at → length work ≡ length work₀ → length held ≡ length held₀ → ReplaysAll i t used work → CanReplay used work held
-can-replay t work₀ held₀ at i used work held can l p q a =
+pub can_replay : (t : List ℕ) (work₀ held₀ : List Lot) (at i used : ℕ) (work held : List Lot) → CanReplayAll at work₀ held₀ → i < at → length work ≡ length work₀ → length held ≡ length held₀ → ReplaysAll i t used work → CanReplay used work held
+can_replay t work₀ held₀ at i used work held can l p q a =
     let few : used ≤ i = few-lots t i used work a in
     record { few = omega (arith, can.few); room = rw p (omega (arith, can.room)); scratch = rw q (omega (arith, can.scratch)) }
 

@@ -1,8 +1,8 @@
 // The replay of a history in lots: one record, the records before a payment, and what the payment then
 // takes, as its pieces.
 ghost use Rattle.std.specs.Prelude.{◌≡◌, cond, ◌-◌, length};
-ghost use Rattle.rules.specs.Tables.{rows_of, recordShape};
-ghost use Rattle.lots.specs.Traces.{beforePayment};
+ghost use Rattle.rules.specs.Tables.{rows_of, record_shape};
+ghost use Rattle.lots.specs.Traces.{before_payment};
 ghost use Rattle.replays.specs.Replaying.{CanReplay, Replays, CanReplayAll, ReplaysAll, CanTrace, Traces};
 
 use records::record_at;
@@ -13,7 +13,7 @@ use takings::work::{join, take_from};
 // "Payment n is the withdrawal with n withdrawals before it": its place among the records, or past
 // the last where there is none.
 pub fn payment_at(history: &[u64], records: usize, n: u64) -> usize
-    ensures { result ≡ length (beforePayment n (rows_of recordShape records history.now)) }
+    ensures { result ≡ length (before_payment n (rows_of record_shape records history.now)) }
 {
     let mut left = n;
     let mut i: usize = 0;

@@ -11,49 +11,49 @@ use Rattle.rules.specs.declared.rows.Lot.{Lot}
 use Rattle.rules.specs.declared.answers.Refusal.{Refusal}
 use Rattle.rules.specs.contracts.answers.Refusal as declared
 use Rattle.rules.specs.Lists.{joined}
-use Rattle.rules.specs.Lines.{lineFeed, decimal, tabbed}
-use Rattle.rules.specs.Replies.{Reply, toldRefusal}
+use Rattle.rules.specs.Lines.{line_feed, decimal, tabbed}
+use Rattle.rules.specs.Replies.{Reply, told_refusal}
 use Rattle.rules.specs.Answer.{Outcome}
-use Rattle.rules.specs.Transcript.{pieceValues, replyText}
-use Rattle.rules.proofs.Laying.{joined-append}
+use Rattle.rules.specs.Transcript.{piece_values, reply_text}
+use Rattle.rules.proofs.Laying.{joined_append}
 use Rattle.rules.proofs.Told.{Telling}
 use Rattle.pages.specs.Writing.{Page, put}
 use Rattle.pages.proofs.PageLaws.{put_then, put-values, tabbed-append}
-use Rattle.replies.specs.Writing.{replyStart, replyLine}
+use Rattle.replies.specs.Writing.{reply_start, reply_line}
 
 -- ---- the line of a reply
-start-values : (n : ℕ) (r : Reply) → replyStart n r ≡ decimal n ++ tabbed (r.number ∷ []) ++ tabbed r.values
-unfolding replyStart
+start-values : (n : ℕ) (r : Reply) → reply_start n r ≡ decimal n ++ tabbed (r.number ∷ []) ++ tabbed r.values
+unfolding reply_start
 start-values n r = rw (tabbed-append (r.number ∷ []) r.values, ← append_assoc (decimal n) (tabbed (r.number ∷ [])) (tabbed r.values))
 
 -- its number alone, and its number and values
-pub start-alone : (p : Page) {q : Page} (n m : ℕ) (r : Reply) → m ≡ r.number → r.values ≡ [] → q ≡ put p (decimal n ++ tabbed (m ∷ [])) → q ≡ put p (replyStart n r)
-unfolding replyStart
-start-alone p n m r e v h = rw (v, ← e) h
+pub start_alone : (p : Page) {q : Page} (n m : ℕ) (r : Reply) → m ≡ r.number → r.values ≡ [] → q ≡ put p (decimal n ++ tabbed (m ∷ [])) → q ≡ put p (reply_start n r)
+unfolding reply_start
+start_alone p n m r e v h = rw (v, ← e) h
 
 pub start-told : (p : Page) {q s : Page} (n m : ℕ) (r : Reply) (vs : List ℕ) → m ≡ r.number → r.values ≡ vs → q ≡ put p (decimal n ++ tabbed (m ∷ []))
-    → s ≡ put q (tabbed vs) → s ≡ put p (replyStart n r)
+    → s ≡ put q (tabbed vs) → s ≡ put p (reply_start n r)
 start-told p n m r vs e v h k = rw (start-values n r, v, ← e) (put_then p (decimal n ++ tabbed (m ∷ [])) (tabbed vs) h k)
 
 -- a reply's line is its start, its pieces and a line feed
-pub reply-text : (n : ℕ) (o : Outcome) → replyText n o ≡ replyStart n o.reply ++ tabbed (joined pieceValues o.pieces) ++ (lineFeed ∷ [])
-unfolding replyText replyStart
+pub reply-text : (n : ℕ) (o : Outcome) → reply_text n o ≡ reply_start n o.reply ++ tabbed (joined piece_values o.pieces) ++ (line_feed ∷ [])
+unfolding reply_text reply_start
 reply-text n o =
-    rw (tabbed-append (o.reply.number ∷ o.reply.values) (joined pieceValues o.pieces), append_assoc (decimal n) (tabbed (o.reply.number ∷ o.reply.values)) (tabbed (joined pieceValues o.pieces)))
+    rw (tabbed-append (o.reply.number ∷ o.reply.values) (joined piece_values o.pieces), append_assoc (decimal n) (tabbed (o.reply.number ∷ o.reply.values)) (tabbed (joined piece_values o.pieces)))
 
 -- and without pieces it is the whole line that is written for an answer
-pub reply-line : (n : ℕ) (o : Outcome) → o.pieces ≡ [] → replyText n o ≡ replyLine n o.reply
-unfolding replyText replyLine replyStart joined
+pub reply-line : (n : ℕ) (o : Outcome) → o.pieces ≡ [] → reply_text n o ≡ reply_line n o.reply
+unfolding reply_text reply_line reply_start joined
 reply-line n o e = rw (e, append-nil o.reply.values)
 
 -- one piece more
-pub put-pieces : (p : Page) {q r : Page} (ls : List Lot) (l : Lot) → q ≡ put p (tabbed (joined pieceValues ls)) → r ≡ put q (tabbed (pieceValues l))
-    → r ≡ put p (tabbed (joined pieceValues (ls ++ (l ∷ []))))
+pub put-pieces : (p : Page) {q r : Page} (ls : List Lot) (l : Lot) → q ≡ put p (tabbed (joined piece_values ls)) → r ≡ put q (tabbed (piece_values l))
+    → r ≡ put p (tabbed (joined piece_values (ls ++ (l ∷ []))))
 unfolding joined
-put-pieces p ls l e f = rw (joined-append pieceValues ls (l ∷ [])) (put-values p (joined pieceValues ls) (pieceValues l) e f)
+put-pieces p ls l e f = rw (joined_append piece_values ls (l ∷ [])) (put-values p (joined piece_values ls) (piece_values l) e f)
 
 -- a refusal of any tag but the first, which is Malformed's, tells its number alone
-pub number-alone : (keys : List ℕ) → T (not (has_key keys 0)) → {r : Refusal} → Telling r → OneOf keys (tag_of declared.the_type r) → (toldRefusal r).values ≡ []
-unfolding toldRefusal
-number-alone keys h (Telling.field k) e = absurd (miss keys 0 h e)
-number-alone keys h (Telling.alone q) e = ap (λ (x : Reply). x.values) q
+pub number_alone : (keys : List ℕ) → T (not (has_key keys 0)) → {r : Refusal} → Telling r → OneOf keys (tag_of declared.the_type r) → (told_refusal r).values ≡ []
+unfolding told_refusal
+number_alone keys h (Telling.field k) e = absurd (miss keys 0 h e)
+number_alone keys h (Telling.alone q) e = ap (λ (x : Reply). x.values) q

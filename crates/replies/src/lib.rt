@@ -1,11 +1,11 @@
 // The reply writer: a reply's line and the last line on a page of the caller's, from a place on. Each
 // function answers the place after what it wrote, as those of `pages` do.
 ghost use Rattle.std.specs.Prelude.{◌≡◌, [], ◌∷◌, ◌++◌};
-ghost use Rattle.rules.specs.Replies.{toldRefusal, number_of, told};
+ghost use Rattle.rules.specs.Replies.{told_refusal, number_of, told};
 ghost use Rattle.rules.specs.Lines.{decimal, tabbed};
-ghost use Rattle.rules.specs.Transcript.{pieceValues, endText};
+ghost use Rattle.rules.specs.Transcript.{piece_values, end_text};
 ghost use Rattle.pages.specs.Writing.{page, put};
-ghost use Rattle.replies.specs.Writing.{replyStart, replyLine};
+ghost use Rattle.replies.specs.Writing.{reply_start, reply_line};
 
 use pages::{put_bytes, put_decimal, put_line_feed, put_value};
 use rules::answers::{Answer, Refusal, Tally};
@@ -32,7 +32,7 @@ fn put_payment(out: &mut [u8], at: usize, x: Payment) -> usize
 
 // "Deposit number and amount for each piece."
 pub fn put_piece(out: &mut [u8], at: usize, x: Lot) -> usize
-    ensures { page out.new result ≡ put (page out.old at) (tabbed (pieceValues x)) }
+    ensures { page out.new result ≡ put (page out.old at) (tabbed (piece_values x)) }
 {
     let number = x.number;
     let p = put_value(out, at, number.0);
@@ -41,7 +41,7 @@ pub fn put_piece(out: &mut [u8], at: usize, x: Lot) -> usize
 
 // A reply's line up to its pieces: line number, reply number, and the values that the answer tells.
 pub fn put_answer(out: &mut [u8], at: usize, line: u64, a: Answer) -> usize
-    ensures { page out.new result ≡ put (page out.old at) (replyStart line (told a)) }
+    ensures { page out.new result ≡ put (page out.old at) (reply_start line (told a)) }
 {
     let p = put_reply(out, at, line, reply_number(a));
     match a {
@@ -54,7 +54,7 @@ pub fn put_answer(out: &mut [u8], at: usize, line: u64, a: Answer) -> usize
 
 // "The runner adds the field number after reply 1."
 fn put_field(out: &mut [u8], at: usize, why: Refusal) -> usize
-    ensures { page out.new result ≡ put (page out.old at) (tabbed (toldRefusal why).values) }
+    ensures { page out.new result ≡ put (page out.old at) (tabbed (told_refusal why).values) }
 {
     let Refusal::Malformed(k) = why else {
         return at;
@@ -64,7 +64,7 @@ fn put_field(out: &mut [u8], at: usize, why: Refusal) -> usize
 
 // The whole line of an answer without pieces.
 pub fn put_reply_line(out: &mut [u8], at: usize, line: u64, a: Answer) -> usize
-    ensures { page out.new result ≡ put (page out.old at) (replyLine line (told a)) }
+    ensures { page out.new result ≡ put (page out.old at) (reply_line line (told a)) }
 {
     let p = put_answer(out, at, line, a);
     put_line_feed(out, p)
@@ -72,7 +72,7 @@ pub fn put_reply_line(out: &mut [u8], at: usize, line: u64, a: Answer) -> usize
 
 // "Last comes `end`, the number of replies 0 and of other replies."
 pub fn put_end(out: &mut [u8], at: usize, t: Tally) -> usize
-    ensures { page out.new result ≡ put (page out.old at) (endText t) }
+    ensures { page out.new result ≡ put (page out.old at) (end_text t) }
 {
     let p = put_bytes(out, at, b"end");
     let p = put_value(out, p, t.done);

@@ -7,10 +7,10 @@ use Prim.Native.Nat.{ℕ}
 use mathlib.Core.List.{List, []}
 use lib.ListN.{replicate}
 use Rattle.rules.specs.Types.{DepositNumber, Deposit, Payment, Answer}
-use Rattle.rules.specs.Tables.{noRecord}
+use Rattle.rules.specs.Tables.{no_record}
 use Rattle.rules.specs.State.{Outside, State}
 use Rattle.rules.specs.Replies.{Reply, told}
-use Rattle.rules.proofs.Told.{told-once, once}
+use Rattle.rules.proofs.Told.{told_once, once}
 
 module _ (w : World) where
   abbrev pub Says : Pr w → Type 0 → Type 1
@@ -41,7 +41,7 @@ module _ (w : World) where
 
   -- one for what is told of it
   pub reply : {L : Type 0} {y : Reply} {r r' : Answer} {l : L} → Both (told r ≡ y) (told r' ≡ y) ((r ≡ r') × (l ≡ l))
-  reply = both (λ p q. (told-once _ _ (p ∙ sym q), refl))
+  reply = both (λ p q. (told_once _ _ (p ∙ sym q), refl))
 
   -- one for what is left of the first parameter
   pub first : {A B L : Type 0} {y t t' : A} {r : B} {l : L} → Both (t ≡ y) (t' ≡ y) ((r ≡ r) × (◌≡◌ {A = A × L} (t, l) (t', l)))
@@ -49,19 +49,19 @@ module _ (w : World) where
 
 -- ---- tables of refusals
 -- whatever a table reads, some state has it: these balances, holders and unclaimed deposits, this outside, and so many records
-abbrev pub someState : List ℕ → List ℕ → List Deposit → Outside → ℕ → State
-someState balances holders inbox outside records =
+abbrev pub some_state : List ℕ → List ℕ → List Deposit → Outside → ℕ → State
+some_state balances holders inbox outside records =
     record {
       balances = balances;
       holders = holders;
       inbox = inbox;
       outside = outside;
-      history = replicate records noRecord;
+      history = replicate records no_record;
     }
 
-abbrev pub someOutside : List ℕ → DepositNumber → List Payment → List Payment → Outside
-someOutside lifetime last flying waiting = record { lifetime = lifetime; settled = []; last = last; next = record { 0 = 0 }; inflight = flying; waiting = waiting }
+abbrev pub some_outside : List ℕ → DepositNumber → List Payment → List Payment → Outside
+some_outside lifetime last flying waiting = record { lifetime = lifetime; settled = []; last = last; next = record { 0 = 0 }; inflight = flying; waiting = waiting }
 
 -- nothing outside
-abbrev pub noOutside : Outside
-noOutside = someOutside [] (record { 0 = 0 }) [] []
+abbrev pub no_outside : Outside
+no_outside = some_outside [] (record { 0 = 0 }) [] []

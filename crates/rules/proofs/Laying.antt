@@ -7,7 +7,7 @@ use native.Mathlib.Omega.{arith}
 use lib.ListN.{length, take, drop, set, replicate, length-append, length-drop, length-set}
 use lib.Seq.{take-add, take_at, drop_at, drop-drop, length-take-le, set_split}
 use Rattle.rules.specs.Lists.{joined}
-use Rattle.rules.specs.Tables.{Shape, Edit, rows_of, lay, edited, splice, withoutRow, editedTable}
+use Rattle.rules.specs.Tables.{Shape, Edit, rows_of, lay, edited, splice, without_row, edited_table}
 
 -- what makes a shape sound: a row is as wide as the shape says, is read back as it was laid, and lies as it was read
 pub record Sound {A : Type 0} (shape : Shape A) : Type 0 where
@@ -19,13 +19,13 @@ pub record Sound {A : Type 0} (shape : Shape A) : Type 0 where
 unfoldable pub RoomFor : {A : Type 0} → Shape A → Edit A → ℕ → List ℕ → Type 0
 RoomFor shape Edit.keep n t = n * shape.width ≤ length t
 RoomFor shape (Edit.add a) n t = suc n * shape.width ≤ length t
-RoomFor shape (Edit.takeOut i) n t = (i < n) × (n * shape.width ≤ length t)
+RoomFor shape (Edit.take_out i) n t = (i < n) × (n * shape.width ≤ length t)
 RoomFor shape (Edit.change i a) n t = (i < n) × (n * shape.width ≤ length t)
 
-pub joined-append : {A B : Type 0} (f : A → List B) (xs ys : List A) → joined f (xs ++ ys) ≡ joined f xs ++ joined f ys
+pub joined_append : {A B : Type 0} (f : A → List B) (xs ys : List A) → joined f (xs ++ ys) ≡ joined f xs ++ joined f ys
 unfolding joined
-joined-append f [] ys = refl
-joined-append f (x ∷ xs) ys = rw (joined-append f xs ys, append_assoc)
+joined_append f [] ys = refl
+joined_append f (x ∷ xs) ys = rw (joined_append f xs ys, append_assoc)
 
 -- one row's width more
 pub more : (n w : ℕ) → suc n * w ≡ w + n * w
@@ -60,37 +60,37 @@ module _ {A : Type 0} (shape : Shape A) where
 
   module _ (sound : Sound shape) where
     -- ---- the rows read back are the rows
-    rows-joined : (rows : List A) (rest : List ℕ) → rows_of shape (length rows) (joined shape.flat rows ++ rest) ≡ rows
+    rows_joined : (rows : List A) (rest : List ℕ) → rows_of shape (length rows) (joined shape.flat rows ++ rest) ≡ rows
     unfolding rows_of joined
-    rows-joined [] rest = refl
-    rows-joined (a ∷ rows) rest =
+    rows_joined [] rest = refl
+    rows_joined (a ∷ rows) rest =
         rw (
           append_assoc (shape.flat a) (joined shape.flat rows) rest,
           take_at (shape.flat a) (joined shape.flat rows ++ rest) shape.width (sound.wide a),
           drop_at (shape.flat a) (joined shape.flat rows ++ rest) shape.width (sound.wide a),
           sound.back a,
         )
-        (ap (λ (r : List A). a ∷ r) (rows-joined rows rest))
+        (ap (λ (r : List A). a ∷ r) (rows_joined rows rest))
 
     pub rows-laid : (rows : List A) (n : ℕ) (t : List ℕ) → rows_of shape (length rows) (lay shape rows n t) ≡ rows
     unfolding lay
     rows-laid rows n t =
         rw (append_assoc (joined shape.flat rows) (replicate ((n - length rows) * shape.width) 0) (drop (max n (length rows) * shape.width) t))
-        (rows-joined rows (replicate ((n - length rows) * shape.width) 0 ++ drop (max n (length rows) * shape.width) t))
+        (rows_joined rows (replicate ((n - length rows) * shape.width) 0 ++ drop (max n (length rows) * shape.width) t))
 
     -- ---- the rows, laid, are the part of the table that held them
-    pub joined-rows : (n : ℕ) (t : List ℕ) → n * shape.width ≤ length t → joined shape.flat (rows_of shape n t) ≡ take (n * shape.width) t
+    pub joined_rows : (n : ℕ) (t : List ℕ) → n * shape.width ≤ length t → joined shape.flat (rows_of shape n t) ≡ take (n * shape.width) t
     unfolding rows_of joined
-    joined-rows zero t h = rw zero-mul
-    joined-rows (suc n) t h =
+    joined_rows zero t h = rw zero-mul
+    joined_rows (suc n) t h =
         let e : suc n * shape.width ≡ shape.width + n * shape.width = more n shape.width in
         let l : length (take shape.width t) ≡ shape.width = length-take-le shape.width t (omega arith) in
         let k : n * shape.width ≤ length (drop shape.width t) = rw length-drop (omega arith) in
-        rw (e, take-add shape.width (n * shape.width) t, sound.forth (take shape.width t) l, joined-rows n (drop shape.width t) k)
+        rw (e, take-add shape.width (n * shape.width) t, sound.forth (take shape.width t) l, joined_rows n (drop shape.width t) k)
 
-    joined-one : (a : A) → joined shape.flat (a ∷ []) ≡ shape.flat a
+    joined_one : (a : A) → joined shape.flat (a ∷ []) ≡ shape.flat a
     unfolding joined
-    joined-one a = append-nil (shape.flat a)
+    joined_one a = append-nil (shape.flat a)
 
     -- ---- one law for each kind of edit
     -- what laying is, where so many rows are given up and so much of the table stays
@@ -103,7 +103,7 @@ module _ {A : Type 0} (shape : Shape A) where
     lay-keep n t h =
         let l : length (rows_of shape n t) ≡ n = length-rows n t in
         laid_as (rows_of shape n t) n t 0 n (omega arith) (omega arith)
-        ∙ rw (joined-rows n t h, zero-mul, append-nil) (lib.ListN.take-append-drop (n * shape.width) t)
+        ∙ rw (joined_rows n t h, zero-mul, append-nil) (lib.ListN.take-append-drop (n * shape.width) t)
 
     lay-add : (a : A) (n : ℕ) (t : List ℕ) → suc n * shape.width ≤ length t
         → lay shape (rows_of shape n t ++ (a ∷ [])) n t ≡ splice (n * shape.width) (shape.flat a) t
@@ -115,7 +115,7 @@ module _ {A : Type 0} (shape : Shape A) where
         let f : n * shape.width ≤ length t = omega arith in
         let k : suc n * shape.width ≡ n * shape.width + length (shape.flat a) = omega (arith, sound.wide a) in
         laid_as (rows_of shape n t ++ (a ∷ [])) n t 0 (suc n) (omega arith) (omega arith)
-        ∙ rw (joined-append shape.flat (rows_of shape n t) (a ∷ []), joined-rows n t f, joined-one a, zero-mul, append-nil (take (n * shape.width) t ++ shape.flat a), k)
+        ∙ rw (joined_append shape.flat (rows_of shape n t) (a ∷ []), joined_rows n t f, joined_one a, zero-mul, append-nil (take (n * shape.width) t ++ shape.flat a), k)
 
     lay-change : (i : ℕ) (a : A) (n : ℕ) (t : List ℕ) → i < n → n * shape.width ≤ length t
         → lay shape (set (rows_of shape n t) i a) n t ≡ splice (i * shape.width) (shape.flat a) t
@@ -133,9 +133,9 @@ module _ {A : Type 0} (shape : Shape A) where
           set_split (rows_of shape n t) i a (omega arith),
           take-rows n i t (omega arith),
           drop-rows n (suc i) t h,
-          joined-append shape.flat (rows_of shape i t) (a ∷ rows_of shape (n - suc i) (drop (suc i * shape.width) t)),
-          joined-rows i t (omega arith),
-          joined-rows (n - suc i) (drop (suc i * shape.width) t) g,
+          joined_append shape.flat (rows_of shape i t) (a ∷ rows_of shape (n - suc i) (drop (suc i * shape.width) t)),
+          joined_rows i t (omega arith),
+          joined_rows (n - suc i) (drop (suc i * shape.width) t) g,
           zero-mul,
           append-nil (take (i * shape.width) t ++ (shape.flat a ++ take ((n - suc i) * shape.width) (drop (suc i * shape.width) t))),
           append_assoc,
@@ -147,10 +147,10 @@ module _ {A : Type 0} (shape : Shape A) where
         )
         (ap (λ (r : List ℕ). take (i * shape.width) t ++ (shape.flat a ++ r)) (lib.ListN.take-append-drop ((n - suc i) * shape.width) (drop (suc i * shape.width) t)))
 
-    lay-takeOut : (i n : ℕ) (t : List ℕ) → i < n → n * shape.width ≤ length t
-        → lay shape (take i (rows_of shape n t) ++ drop (suc i) (rows_of shape n t)) n t ≡ withoutRow shape.width i n t
-    unfolding withoutRow
-    lay-takeOut i n t h f =
+    lay-take_out : (i n : ℕ) (t : List ℕ) → i < n → n * shape.width ≤ length t
+        → lay shape (take i (rows_of shape n t) ++ drop (suc i) (rows_of shape n t)) n t ≡ without_row shape.width i n t
+    unfolding without_row
+    lay-take_out i n t h f =
         let rows : List A = take i (rows_of shape n t) ++ drop (suc i) (rows_of shape n t) in
         let l : length (rows_of shape n t) ≡ n = length-rows n t in
         let m : length rows ≡ i + (n - suc i) =
@@ -164,16 +164,16 @@ module _ {A : Type 0} (shape : Shape A) where
         ∙ rw (
           take-rows n i t (omega arith),
           drop-rows n (suc i) t h,
-          joined-append shape.flat (rows_of shape i t) (rows_of shape (n - suc i) (drop (suc i * shape.width) t)),
-          joined-rows i t (omega arith),
-          joined-rows (n - suc i) (drop (suc i * shape.width) t) g,
+          joined_append shape.flat (rows_of shape i t) (rows_of shape (n - suc i) (drop (suc i * shape.width) t)),
+          joined_rows i t (omega arith),
+          joined_rows (n - suc i) (drop (suc i * shape.width) t) g,
           one-mul,
         )
 
     -- the four as one
-    pub lay-edited : (e : Edit A) (n : ℕ) (t : List ℕ) → RoomFor shape e n t → lay shape (edited e (rows_of shape n t)) n t ≡ editedTable shape e n t
-    unfolding edited editedTable RoomFor
+    pub lay-edited : (e : Edit A) (n : ℕ) (t : List ℕ) → RoomFor shape e n t → lay shape (edited e (rows_of shape n t)) n t ≡ edited_table shape e n t
+    unfolding edited edited_table RoomFor
     lay-edited Edit.keep n t f = lay-keep n t f
     lay-edited (Edit.add a) n t f = lay-add a n t f
-    lay-edited (Edit.takeOut i) n t f = lay-takeOut i n t f.0 f.1
+    lay-edited (Edit.take_out i) n t f = lay-take_out i n t f.0 f.1
     lay-edited (Edit.change i a) n t f = lay-change i a n t f.0 f.1

@@ -30,9 +30,9 @@ ands-at (t ∷ ts) zero h = (both t (ands ts) h).0
 ands-at (t ∷ ts) (suc k) h = ands-at ts k (both t (ands ts) h).1
 
 -- a refusal that does not apply: what it asks the opposite of holds
-pub twice-not : (t : Bool) → not (not t) ≡ true → t ≡ true
-twice-not true h = refl
-twice-not false h = h
+pub twice_not : (t : Bool) → not (not t) ≡ true → t ≡ true
+twice_not true h = refl
+twice_not false h = h
 
 -- a test that does not hold is false
 pub not-holds : (t : Bool) → not t ≡ true → t ≡ false
@@ -45,13 +45,13 @@ neither true b h = (h, absurd (false≢true h))
 neither false b h = (refl, h)
 
 -- a field within its limits, from its test and back
-pub within-true : (lo hi x : ℕ) → within lo hi x ≡ true → Within lo hi x
-within-true lo hi x h =
+pub within_true : (lo hi x : ℕ) → within lo hi x ≡ true → Within lo hi x
+within_true lo hi x h =
     let (p, q) = both (leb lo x) (leb x hi) h in
     record { low = leb-true lo x p; high = leb-true x hi q }
 
-pub true-within : (lo hi x : ℕ) → Within lo hi x → within lo hi x ≡ true
-true-within lo hi x h = rw (le-leb lo x h.low, le-leb x hi h.high)
+pub true_within : (lo hi x : ℕ) → Within lo hi x → within lo hi x ≡ true
+true_within lo hi x h = rw (le-leb lo x h.low, le-leb x hi h.high)
 
 -- ---- every element of a list passes
 -- the element at any place, if what stands past the end passes too
@@ -82,14 +82,14 @@ all_set p (y ∷ xs) (suc i) x h e =
     let (a, t) = both (p y) (all p xs) h in
     rw a (all_set p xs i x t e)
 
-pub same-eq : (w f : List ℕ) → same w f ≡ true → w ≡ f
+pub same_eq : (w f : List ℕ) → same w f ≡ true → w ≡ f
 unfolding same
-same-eq [] [] h = refl
-same-eq [] (y ∷ f) h = absurd (false≢true h)
-same-eq (x ∷ w) [] h = absurd (false≢true h)
-same-eq (x ∷ w) (y ∷ f) h =
+same_eq [] [] h = refl
+same_eq [] (y ∷ f) h = absurd (false≢true h)
+same_eq (x ∷ w) [] h = absurd (false≢true h)
+same_eq (x ∷ w) (y ∷ f) h =
     let (a, b) = both (eqb x y) (same w f) h in
-    rw (eqb-true x y a, same-eq w f b)
+    rw (eqb-true x y a, same_eq w f b)
 
 -- ---- a table of refusals
 -- its numbers are refusals' numbers, from 1 on
@@ -97,8 +97,8 @@ abbrev pub numbered : List (ℕ × Bool) → Bool
 numbered rs = all (λ r. leb 1 r.0) rs
 
 -- no test of it holds
-abbrev pub noneApplies : List (ℕ × Bool) → Bool
-noneApplies rs = all (λ r. not r.1) rs
+abbrev pub none_applies : List (ℕ × Bool) → Bool
+none_applies rs = all (λ r. not r.1) rs
 
 -- the smaller of a refusal and another number is no 0
 smaller-positive : (n m : ℕ) → 1 ≤ n → smaller n m ≡ 0 → ⊥
@@ -106,21 +106,21 @@ smaller-positive n zero h e = omega arith
 smaller-positive n (suc m) h e = omega arith
 
 -- the smallest number is 0 exactly if no test holds
-pub none-applies : (rs : List (ℕ × Bool)) → numbered rs ≡ true → smallest rs ≡ 0 → noneApplies rs ≡ true
+pub none-applies : (rs : List (ℕ × Bool)) → numbered rs ≡ true → smallest rs ≡ 0 → none_applies rs ≡ true
 unfolding all smallest
 none-applies [] p h = refl
 none-applies (r ∷ rs) p h = go r.1 refl h (none-applies rs (both (leb 1 r.0) (numbered rs) p).1)
   where
-    go : (t : Bool) → r.1 ≡ t → cond t (smaller r.0 (smallest rs)) (smallest rs) ≡ 0 → (smallest rs ≡ 0 → noneApplies rs ≡ true) → noneApplies (r ∷ rs) ≡ true
+    go : (t : Bool) → r.1 ≡ t → cond t (smaller r.0 (smallest rs)) (smallest rs) ≡ 0 → (smallest rs ≡ 0 → none_applies rs ≡ true) → none_applies (r ∷ rs) ≡ true
     go true e z ih = absurd (smaller-positive r.0 (smallest rs) (leb-true 1 r.0 (both (leb 1 r.0) (numbered rs) p).0) z)
     go false e z ih = rw e (ih z)
 
 -- and the other way round
-pub nothing-smallest : (rs : List (ℕ × Bool)) → noneApplies rs ≡ true → smallest rs ≡ 0
+pub nothing-smallest : (rs : List (ℕ × Bool)) → none_applies rs ≡ true → smallest rs ≡ 0
 unfolding all smallest
 nothing-smallest [] h = refl
 nothing-smallest (r ∷ rs) h =
-    let (a, t) = both (not r.1) (noneApplies rs) h in
+    let (a, t) = both (not r.1) (none_applies rs) h in
     rw (not-holds r.1 a) (nothing-smallest rs t)
 
 -- where none of a table's numbers is below k, neither is the smallest that applies

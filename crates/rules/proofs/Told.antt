@@ -8,8 +8,8 @@ use lib.ListN.{get_or}
 use native.Mathlib.Omega.{arith}
 use borrow.Author.Tests.{ne_eqb}
 use Rattle.rules.specs.Types.{Refusal, Answer, Answered, Origin}
-use Rattle.rules.specs.Replies.{Reply, plain, toldRefusal, number_of, told, toldOrigin}
-use Rattle.rules.specs.Answer.{Outcome, outcomeOf}
+use Rattle.rules.specs.Replies.{Reply, plain, told_refusal, number_of, told, told_origin}
+use Rattle.rules.specs.Answer.{Outcome, outcome_of}
 
 -- ---- the refusal of a reply
 refusals : ℕ → List Refusal
@@ -38,65 +38,65 @@ refusals k =
     ∷ Refusal.NoSuchPayment
     ∷ []
 
-refusalOf : Reply → Refusal
-refusalOf r = get_or (refusals (get_or r.values 0 0)) r.number (Refusal.Malformed 0)
+refusal_of : Reply → Refusal
+refusal_of r = get_or (refusals (get_or r.values 0 0)) r.number (Refusal.Malformed 0)
 
-refusal-back : (r : Refusal) → refusalOf (toldRefusal r) ≡ r
-unfolding refusalOf refusals toldRefusal
-refusal-back (Refusal.Malformed k) = refl
-refusal-back Refusal.BadBook = refl
-refusal-back Refusal.BadMember = refl
-refusal-back Refusal.BadAsset = refl
-refusal-back Refusal.BadDomain = refl
-refusal-back Refusal.BadAmount = refl
-refusal-back Refusal.BadPayee = refl
-refusal-back Refusal.SameMember = refl
-refusal-back Refusal.Old = refl
-refusal-back Refusal.Gap = refl
-refusal-back Refusal.Ceiling = refl
-refusal-back Refusal.InboxFull = refl
-refusal-back Refusal.NoSuchDeposit = refl
-refusal-back Refusal.Short = refl
-refusal-back Refusal.NotHolder = refl
-refusal-back Refusal.OutboxFull = refl
-refusal-back Refusal.HistoryFull = refl
-refusal-back Refusal.NothingWaiting = refl
-refusal-back Refusal.NotNext = refl
-refusal-back Refusal.TableSmall = refl
-refusal-back Refusal.NoSuchPayment = refl
+refusal_back : (r : Refusal) → refusal_of (told_refusal r) ≡ r
+unfolding refusal_of refusals told_refusal
+refusal_back (Refusal.Malformed k) = refl
+refusal_back Refusal.BadBook = refl
+refusal_back Refusal.BadMember = refl
+refusal_back Refusal.BadAsset = refl
+refusal_back Refusal.BadDomain = refl
+refusal_back Refusal.BadAmount = refl
+refusal_back Refusal.BadPayee = refl
+refusal_back Refusal.SameMember = refl
+refusal_back Refusal.Old = refl
+refusal_back Refusal.Gap = refl
+refusal_back Refusal.Ceiling = refl
+refusal_back Refusal.InboxFull = refl
+refusal_back Refusal.NoSuchDeposit = refl
+refusal_back Refusal.Short = refl
+refusal_back Refusal.NotHolder = refl
+refusal_back Refusal.OutboxFull = refl
+refusal_back Refusal.HistoryFull = refl
+refusal_back Refusal.NothingWaiting = refl
+refusal_back Refusal.NotNext = refl
+refusal_back Refusal.TableSmall = refl
+refusal_back Refusal.NoSuchPayment = refl
 
 -- a refusal's number is never 0
-pub refusal-number : (r : Refusal) → 1 ≤ number_of r
-unfolding toldRefusal
-refusal-number (Refusal.Malformed k) = lit≤ tt
-refusal-number Refusal.BadBook = lit≤ tt
-refusal-number Refusal.BadMember = lit≤ tt
-refusal-number Refusal.BadAsset = lit≤ tt
-refusal-number Refusal.BadDomain = lit≤ tt
-refusal-number Refusal.BadAmount = lit≤ tt
-refusal-number Refusal.BadPayee = lit≤ tt
-refusal-number Refusal.SameMember = lit≤ tt
-refusal-number Refusal.Old = lit≤ tt
-refusal-number Refusal.Gap = lit≤ tt
-refusal-number Refusal.Ceiling = lit≤ tt
-refusal-number Refusal.InboxFull = lit≤ tt
-refusal-number Refusal.NoSuchDeposit = lit≤ tt
-refusal-number Refusal.Short = lit≤ tt
-refusal-number Refusal.NotHolder = lit≤ tt
-refusal-number Refusal.OutboxFull = lit≤ tt
-refusal-number Refusal.HistoryFull = lit≤ tt
-refusal-number Refusal.NothingWaiting = lit≤ tt
-refusal-number Refusal.NotNext = lit≤ tt
-refusal-number Refusal.TableSmall = lit≤ tt
-refusal-number Refusal.NoSuchPayment = lit≤ tt
+pub refusal_number : (r : Refusal) → 1 ≤ number_of r
+unfolding told_refusal
+refusal_number (Refusal.Malformed k) = lit≤ tt
+refusal_number Refusal.BadBook = lit≤ tt
+refusal_number Refusal.BadMember = lit≤ tt
+refusal_number Refusal.BadAsset = lit≤ tt
+refusal_number Refusal.BadDomain = lit≤ tt
+refusal_number Refusal.BadAmount = lit≤ tt
+refusal_number Refusal.BadPayee = lit≤ tt
+refusal_number Refusal.SameMember = lit≤ tt
+refusal_number Refusal.Old = lit≤ tt
+refusal_number Refusal.Gap = lit≤ tt
+refusal_number Refusal.Ceiling = lit≤ tt
+refusal_number Refusal.InboxFull = lit≤ tt
+refusal_number Refusal.NoSuchDeposit = lit≤ tt
+refusal_number Refusal.Short = lit≤ tt
+refusal_number Refusal.NotHolder = lit≤ tt
+refusal_number Refusal.OutboxFull = lit≤ tt
+refusal_number Refusal.HistoryFull = lit≤ tt
+refusal_number Refusal.NothingWaiting = lit≤ tt
+refusal_number Refusal.NotNext = lit≤ tt
+refusal_number Refusal.TableSmall = lit≤ tt
+refusal_number Refusal.NoSuchPayment = lit≤ tt
 
 -- a refusal is Malformed, which tells its field, or it tells its number alone
 pub data Telling : Refusal → Type 0 where
   field : (k : ℕ) → Telling (Refusal.Malformed k)
-  alone : {r : Refusal} → toldRefusal r ≡ plain (number_of r) → Telling r
+  alone : {r : Refusal} → told_refusal r ≡ plain (number_of r) → Telling r
 
 pub telling : (r : Refusal) → Telling r
-unfolding toldRefusal
+unfolding told_refusal
 telling (Refusal.Malformed k) = Telling.field k
 telling Refusal.BadBook = Telling.alone refl
 telling Refusal.BadMember = Telling.alone refl
@@ -120,45 +120,45 @@ telling Refusal.TableSmall = Telling.alone refl
 telling Refusal.NoSuchPayment = Telling.alone refl
 
 -- ---- the answer of a reply
-untoldDone : List ℕ → Answer
-untoldDone [] = Answer.Done
-untoldDone (n ∷ []) = Answer.Traced n
-untoldDone (n ∷ a ∷ vs) = Answer.Sent (record { asset = a; amount = get_or vs 0 0; payee = get_or vs 1 0; nonce = record { 0 = n } })
+untold_done : List ℕ → Answer
+untold_done [] = Answer.Done
+untold_done (n ∷ []) = Answer.Traced n
+untold_done (n ∷ a ∷ vs) = Answer.Sent (record { asset = a; amount = get_or vs 0 0; payee = get_or vs 1 0; nonce = record { 0 = n } })
 
 untold : Reply → Answer
-untold r = cond (eqb r.number 0) (untoldDone r.values) (Answer.Refused (refusalOf r))
+untold r = cond (eqb r.number 0) (untold_done r.values) (Answer.Refused (refusal_of r))
 
 not-nought : (n : ℕ) → 1 ≤ n → eqb n 0 ≡ false
 not-nought n h = ne_eqb n 0 (λ e. omega arith)
 
-untold-told : (a : Answer) → untold (told a) ≡ a
-unfolding untold untoldDone told
-untold-told Answer.Done = refl
-untold-told (Answer.Sent p) = refl
-untold-told (Answer.Traced n) = refl
-untold-told (Answer.Refused r) = rw (not-nought (number_of r) (refusal-number r), refusal-back r)
+untold_told : (a : Answer) → untold (told a) ≡ a
+unfolding untold untold_done told
+untold_told Answer.Done = refl
+untold_told (Answer.Sent p) = refl
+untold_told (Answer.Traced n) = refl
+untold_told (Answer.Refused r) = rw (not-nought (number_of r) (refusal_number r), refusal_back r)
 
-pub told-once : (a b : Answer) → told a ≡ told b → a ≡ b
-told-once a b e = sym (untold-told a) ∙ ap untold e ∙ untold-told b
+pub told_once : (a b : Answer) → told a ≡ told b → a ≡ b
+told_once a b e = sym (untold_told a) ∙ ap untold e ∙ untold_told b
 
 -- the same of the question for a provenance
-untoldOrigin : Reply → Origin
-untoldOrigin r = cond (eqb r.number 0) (Origin.Amount (get_or r.values 0 0)) (Origin.Refused (refusalOf r))
+untold_origin : Reply → Origin
+untold_origin r = cond (eqb r.number 0) (Origin.Amount (get_or r.values 0 0)) (Origin.Refused (refusal_of r))
 
-untold-origin : (o : Origin) → untoldOrigin (toldOrigin o) ≡ o
-unfolding untoldOrigin toldOrigin
-untold-origin (Origin.Amount n) = refl
-untold-origin (Origin.Refused r) = rw (not-nought (number_of r) (refusal-number r), refusal-back r)
+untold_origin_lem : (o : Origin) → untold_origin (told_origin o) ≡ o
+unfolding untold_origin told_origin
+untold_origin_lem (Origin.Amount n) = refl
+untold_origin_lem (Origin.Refused r) = rw (not-nought (number_of r) (refusal_number r), refusal_back r)
 
-pub origin-once : (a b : Origin) → toldOrigin a ≡ toldOrigin b → a ≡ b
-origin-once a b e = sym (untold-origin a) ∙ ap untoldOrigin e ∙ untold-origin b
+pub origin_once : (a b : Origin) → told_origin a ≡ told_origin b → a ≡ b
+origin_once a b e = sym (untold_origin_lem a) ∙ ap untold_origin e ∙ untold_origin_lem b
 
 -- ---- any two results that a call's contract allows coincide: the answer, the desk and every number of the tables
-pub outcome-once : (o : Outcome) {r r' : Answered} {i i' b b' h h' : List ℕ} → outcomeOf r i b h ≡ o → outcomeOf r' i' b' h' ≡ o
+pub outcome_once : (o : Outcome) {r r' : Answered} {i i' b b' h h' : List ℕ} → outcome_of r i b h ≡ o → outcome_of r' i' b' h' ≡ o
     → (r ≡ r') × (i ≡ i') × (b ≡ b') × (h ≡ h')
-outcome-once o {r} {r'} {i} {i'} {b} {b'} {h} {h'} p q =
-    let e : outcomeOf r i b h ≡ outcomeOf r' i' b' h' = p ∙ sym q in
-    let a : r.answer ≡ r'.answer = told-once r.answer r'.answer (ap (λ (x : Outcome). x.reply) e) in
+outcome_once o {r} {r'} {i} {i'} {b} {b'} {h} {h'} p q =
+    let e : outcome_of r i b h ≡ outcome_of r' i' b' h' = p ∙ sym q in
+    let a : r.answer ≡ r'.answer = told_once r.answer r'.answer (ap (λ (x : Outcome). x.reply) e) in
     let d : r.desk ≡ r'.desk = ap (λ (x : Outcome). x.book.desk) e in (
       λ i. record { answer = a i; desk = d i },
       ap (λ (x : Outcome). x.book.inbox) e,

@@ -2,7 +2,7 @@
 use Rattle.std.specs.Prelude.{ℕ, List, [], ◌∷◌}
 use Rattle.rules.specs.Types.{Call}
 use Rattle.rules.specs.Limits.{ceiling}
-use Rattle.rules.specs.State.{emptyBook}
+use Rattle.rules.specs.State.{empty_book}
 use Rattle.rules.specs.Answer.{answer}
 use Rattle.rules.specs.Runs.{run}
 
@@ -41,7 +41,7 @@ case before asked expected = record { before = before; asked = asked; expected =
 
 -- what the rules give
 unfoldable pub given : Case → ℕ
-given c = (answer (run emptyBook c.before) c.asked).reply.number
+given c = (answer (run empty_book c.before) c.asked).reply.number
 
 -- member 2 with a balance of 300 in asset 3
 abbrev pub with300 : List Call

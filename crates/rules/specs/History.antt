@@ -1,10 +1,10 @@
 -- Document 01 on the history: what a record does by its kind, provenance, the statement, and the test of a history that was not kept by us.
 use Rattle.std.specs.Prelude.{ℕ, zero, suc, ◌+◌, ◌-◌, Bool, true, false, not, ◌&&◌, ◌||◌, cond, List, [], ◌∷◌, leb, eqb, length, get_or, set}
 use Rattle.rules.specs.Types.{Record}
-use Rattle.rules.specs.Limits.{isMember, isAsset, isDomain, isAmount, isPayee, isDepositNumber}
+use Rattle.rules.specs.Limits.{is_member, is_asset, is_domain, is_amount, is_payee, is_deposit_number}
 use Rattle.rules.specs.Lists.{those}
-use Rattle.rules.specs.Tables.{noRecord}
-use Rattle.rules.specs.State.{firstHolders, emptyState}
+use Rattle.rules.specs.Tables.{no_record}
+use Rattle.rules.specs.State.{first_holders, empty_state}
 use Rattle.rules.specs.Effects.{balance, credit, debit, holder}
 
 -- "Kind numbers are 1 to 4 and nothing else"
@@ -18,54 +18,54 @@ kind_of r =
 
 -- ---- provenance
 -- it is of this asset, and the member stands first, or second
-abbrev pub byFirst : ℕ → ℕ → Record → Bool
-byFirst m a r = eqb r.first m && eqb r.asset a
+abbrev pub by_first : ℕ → ℕ → Record → Bool
+by_first m a r = eqb r.first m && eqb r.asset a
 
-abbrev pub bySecond : ℕ → ℕ → Record → Bool
-bySecond m a r = eqb r.second m && eqb r.asset a
+abbrev pub by_second : ℕ → ℕ → Record → Bool
+by_second m a r = eqb r.second m && eqb r.asset a
 
 -- "claims plus transfers in, less transfers out and withdrawals": what a record of this kind makes of the sum so far
-unfoldable pub countedAs : Kind → ℕ → ℕ → Record → ℕ → ℕ
-countedAs Kind.claim m a r n = cond (byFirst m a r) (n + r.amount) n
-countedAs Kind.transfer m a r n = cond (bySecond m a r) (n + r.amount) (cond (byFirst m a r) (n - r.amount) n)
-countedAs Kind.withdrawal m a r n = cond (byFirst m a r) (n - r.amount) n
-countedAs Kind.grant m a r n = n
-countedAs Kind.other m a r n = n
+unfoldable pub counted_as : Kind → ℕ → ℕ → Record → ℕ → ℕ
+counted_as Kind.claim m a r n = cond (by_first m a r) (n + r.amount) n
+counted_as Kind.transfer m a r n = cond (by_second m a r) (n + r.amount) (cond (by_first m a r) (n - r.amount) n)
+counted_as Kind.withdrawal m a r n = cond (by_first m a r) (n - r.amount) n
+counted_as Kind.grant m a r n = n
+counted_as Kind.other m a r n = n
 
 abbrev pub counted : ℕ → ℕ → Record → ℕ → ℕ
-counted m a r n = countedAs (kind_of r) m a r n
+counted m a r n = counted_as (kind_of r) m a r n
 
 -- "going back through the history, one record fewer each time": of the first n records
 unfoldable pub provenance : ℕ → ℕ → ℕ → List Record → ℕ
 provenance m a zero h = 0
-provenance m a (suc n) h = counted m a (get_or h n noRecord) (provenance m a n h)
+provenance m a (suc n) h = counted m a (get_or h n no_record) (provenance m a n h)
 
-abbrev pub provenanceOf : ℕ → ℕ → List Record → ℕ
-provenanceOf m a h = provenance m a (length h) h
+abbrev pub provenance_of : ℕ → ℕ → List Record → ℕ
+provenance_of m a h = provenance m a (length h) h
 
 -- ---- statement
 -- the record names the member: "A payee or deposit number never counts as naming a member."
-unfoldable pub namesAs : Kind → ℕ → Record → Bool
-namesAs Kind.claim m r = eqb r.first m
-namesAs Kind.transfer m r = eqb r.first m || eqb r.second m
-namesAs Kind.withdrawal m r = eqb r.first m
-namesAs Kind.grant m r = eqb r.first m || eqb r.second m
-namesAs Kind.other m r = false
+unfoldable pub names_as : Kind → ℕ → Record → Bool
+names_as Kind.claim m r = eqb r.first m
+names_as Kind.transfer m r = eqb r.first m || eqb r.second m
+names_as Kind.withdrawal m r = eqb r.first m
+names_as Kind.grant m r = eqb r.first m || eqb r.second m
+names_as Kind.other m r = false
 
 abbrev pub names : ℕ → Record → Bool
-names m r = namesAs (kind_of r) m r
+names m r = names_as (kind_of r) m r
 
 -- "the history records of kinds 1 to 4 that name the member, in order"
 unfoldable pub statement : ℕ → List Record → List Record
 statement m h = those (names m) h
 
 -- ---- payments
-abbrev pub isWithdrawal : Record → Bool
-isWithdrawal r = eqb r.kind 3
+abbrev pub is_withdrawal : Record → Bool
+is_withdrawal r = eqb r.kind 3
 
 -- how many withdrawals there are
 unfoldable pub withdrawals : List Record → ℕ
-withdrawals h = length (those isWithdrawal h)
+withdrawals h = length (those is_withdrawal h)
 
 -- ---- the test
 -- what the replay carries from record to record: balances and holders
@@ -74,19 +74,19 @@ pub record Standing : Type 0 where
   pub holders : List ℕ
 
 -- it starts from the balances of an empty book, and from these holders
-unfoldable pub standingFrom : List ℕ → Standing
-standingFrom holders = record { balances = emptyState.balances; holders = holders }
+unfoldable pub standing_from : List ℕ → Standing
+standing_from holders = record { balances = empty_state.balances; holders = holders }
 
-unfoldable pub standingAs : Kind → Standing → Record → Standing
-standingAs Kind.claim s r = record { balances = credit s.balances r.first r.asset r.amount; holders = s.holders }
-standingAs Kind.transfer s r =
+unfoldable pub standing_as : Kind → Standing → Record → Standing
+standing_as Kind.claim s r = record { balances = credit s.balances r.first r.asset r.amount; holders = s.holders }
+standing_as Kind.transfer s r =
     record { balances = credit (debit s.balances r.first r.asset r.amount) r.second r.asset r.amount; holders = s.holders }
-standingAs Kind.withdrawal s r = record { balances = debit s.balances r.first r.asset r.amount; holders = s.holders }
-standingAs Kind.grant s r = record { balances = s.balances; holders = set s.holders (r.asset - 1) r.second }
-standingAs Kind.other s r = s
+standing_as Kind.withdrawal s r = record { balances = debit s.balances r.first r.asset r.amount; holders = s.holders }
+standing_as Kind.grant s r = record { balances = s.balances; holders = set s.holders (r.asset - 1) r.second }
+standing_as Kind.other s r = s
 
-abbrev pub standingAfter : Standing → Record → Standing
-standingAfter s r = standingAs (kind_of r) s r
+abbrev pub standing_after : Standing → Record → Standing
+standing_after s r = standing_as (kind_of r) s r
 
 -- the sender has not less than the amount
 abbrev pub enough : Standing → Record → Bool
@@ -98,13 +98,13 @@ differ r = not (eqb r.first r.second)
 
 -- no field outside its limit, no equal members, a sender with the amount or the domain; a bad kind never fits
 unfoldable pub fits_as : Kind → Standing → Record → Bool
-fits_as Kind.claim s r = isAsset r.asset && (isAmount r.amount && (isMember r.first && isDepositNumber r.second))
+fits_as Kind.claim s r = is_asset r.asset && (is_amount r.amount && (is_member r.first && is_deposit_number r.second))
 fits_as Kind.transfer s r =
-    isAsset r.asset && (isAmount r.amount && (isMember r.first && (isMember r.second && (differ r && enough s r))))
-fits_as Kind.withdrawal s r = isAsset r.asset && (isAmount r.amount && (isMember r.first && (isPayee r.second && enough s r)))
+    is_asset r.asset && (is_amount r.amount && (is_member r.first && (is_member r.second && (differ r && enough s r))))
+fits_as Kind.withdrawal s r = is_asset r.asset && (is_amount r.amount && (is_member r.first && (is_payee r.second && enough s r)))
 fits_as Kind.grant s r =
-    isDomain r.asset
-    && (eqb r.amount 1 && (isMember r.first && (isMember r.second && (differ r && eqb (holder s.holders r.asset) r.first))))
+    is_domain r.asset
+    && (eqb r.amount 1 && (is_member r.first && (is_member r.second && (differ r && eqb (holder s.holders r.asset) r.first))))
 fits_as Kind.other s r = false
 
 abbrev pub fits : Standing → Record → Bool
@@ -113,11 +113,11 @@ fits s r = fits_as (kind_of r) s r
 -- "The whole used history is tested", each record at its point of the replay
 unfoldable pub replays : Standing → List Record → Bool
 replays s [] = true
-replays s (r ∷ rs) = fits s r && replays (standingAfter s r) rs
+replays s (r ∷ rs) = fits s r && replays (standing_after s r) rs
 
 -- from these holders on
-abbrev pub passesFrom : List ℕ → List Record → Bool
-passesFrom holders h = replays (standingFrom holders) h
+abbrev pub passes_from : List ℕ → List Record → Bool
+passes_from holders h = replays (standing_from holders) h
 
-abbrev pub historyInFrame : List Record → Bool
-historyInFrame h = passesFrom firstHolders h
+abbrev pub history_in_frame : List Record → Bool
+history_in_frame h = passes_from first_holders h

@@ -12,43 +12,43 @@ abbrev pub plain : ℕ → Reply
 plain n = record { number = n; values = [] }
 
 -- the table: "a refusal returns its number alone", but "the runner adds the field number after reply 1"
-unfoldable pub toldRefusal : Refusal → Reply
-toldRefusal (Refusal.Malformed k) = record { number = 1; values = k ∷ [] }
-toldRefusal Refusal.BadBook = plain 2
-toldRefusal Refusal.BadMember = plain 3
-toldRefusal Refusal.BadAsset = plain 4
-toldRefusal Refusal.BadDomain = plain 5
-toldRefusal Refusal.BadAmount = plain 6
-toldRefusal Refusal.BadPayee = plain 7
-toldRefusal Refusal.SameMember = plain 8
-toldRefusal Refusal.Old = plain 9
-toldRefusal Refusal.Gap = plain 10
-toldRefusal Refusal.Ceiling = plain 11
-toldRefusal Refusal.InboxFull = plain 12
-toldRefusal Refusal.NoSuchDeposit = plain 13
-toldRefusal Refusal.Short = plain 14
-toldRefusal Refusal.NotHolder = plain 15
-toldRefusal Refusal.OutboxFull = plain 16
-toldRefusal Refusal.HistoryFull = plain 17
-toldRefusal Refusal.NothingWaiting = plain 18
-toldRefusal Refusal.NotNext = plain 19
-toldRefusal Refusal.TableSmall = plain 20
-toldRefusal Refusal.NoSuchPayment = plain 21
+unfoldable pub told_refusal : Refusal → Reply
+told_refusal (Refusal.Malformed k) = record { number = 1; values = k ∷ [] }
+told_refusal Refusal.BadBook = plain 2
+told_refusal Refusal.BadMember = plain 3
+told_refusal Refusal.BadAsset = plain 4
+told_refusal Refusal.BadDomain = plain 5
+told_refusal Refusal.BadAmount = plain 6
+told_refusal Refusal.BadPayee = plain 7
+told_refusal Refusal.SameMember = plain 8
+told_refusal Refusal.Old = plain 9
+told_refusal Refusal.Gap = plain 10
+told_refusal Refusal.Ceiling = plain 11
+told_refusal Refusal.InboxFull = plain 12
+told_refusal Refusal.NoSuchDeposit = plain 13
+told_refusal Refusal.Short = plain 14
+told_refusal Refusal.NotHolder = plain 15
+told_refusal Refusal.OutboxFull = plain 16
+told_refusal Refusal.HistoryFull = plain 17
+told_refusal Refusal.NothingWaiting = plain 18
+told_refusal Refusal.NotNext = plain 19
+told_refusal Refusal.TableSmall = plain 20
+told_refusal Refusal.NoSuchPayment = plain 21
 
 abbrev pub number_of : Refusal → ℕ
-number_of r = (toldRefusal r).number
+number_of r = (told_refusal r).number
 
 -- every answer's number and values: a send gives nonce, asset, amount, payee; a trace gives the piece count (its pieces lie in the table lent for them)
 unfoldable pub told : Answer → Reply
 told Answer.Done = plain 0
 told (Answer.Sent p) = record { number = 0; values = p.nonce.0 ∷ p.asset ∷ p.amount ∷ p.payee ∷ [] }
 told (Answer.Traced n) = record { number = 0; values = n ∷ [] }
-told (Answer.Refused r) = toldRefusal r
+told (Answer.Refused r) = told_refusal r
 
 -- and those of the question for a provenance
-unfoldable pub toldOrigin : Origin → Reply
-toldOrigin (Origin.Amount n) = record { number = 0; values = n ∷ [] }
-toldOrigin (Origin.Refused r) = toldRefusal r
+unfoldable pub told_origin : Origin → Reply
+told_origin (Origin.Amount n) = record { number = 0; values = n ∷ [] }
+told_origin (Origin.Refused r) = told_refusal r
 
 -- an entry of a call's table of refusals: the number, and whether it applies
 abbrev pub refuse : Refusal → Bool → ℕ × Bool
@@ -65,6 +65,6 @@ smallest [] = 0
 smallest (r ∷ rs) = cond r.1 (smaller r.0 (smallest rs)) (smallest rs)
 
 -- this where the reply is Done, that where it is a refusal
-abbrev pub if-done : {A : Type 0} → ℕ → A → A → A
-if-done zero this that = this
-if-done (suc n) this that = that
+abbrev pub if_done : {A : Type 0} → ℕ → A → A → A
+if_done zero this that = this
+if_done (suc n) this that = that

@@ -2,22 +2,22 @@
 use Rattle.std.specs.Prelude.{ℕ, List, [], ◌∷◌, ◌++◌, take, drop}
 use Rattle.rules.specs.Types.{Deposit, Payment, Call}
 use Rattle.rules.specs.State.{Book, view}
-use Rattle.rules.specs.Replies.{if-done}
+use Rattle.rules.specs.Replies.{if_done}
 use Rattle.rules.specs.Effects.{oldest}
-use Rattle.rules.specs.Answer.{answer, replyNumber}
+use Rattle.rules.specs.Answer.{answer, reply_number}
 
 -- the book after one call, and after a list of calls
-abbrev pub bookAfter : Book → Call → Book
-bookAfter b c = (answer b c).book
+abbrev pub book_after : Book → Call → Book
+book_after b c = (answer b c).book
 
 unfoldable pub run : Book → List Call → Book
 run b [] = b
-run b (c ∷ cs) = run (bookAfter b c) cs
+run b (c ∷ cs) = run (book_after b c) cs
 
 -- what the accepted calls among them leave behind, each by the book that it met
 unfoldable pub gather : {A : Type 0} → (Book → Call → List A) → Book → List Call → List A
 gather out b [] = []
-gather out b (c ∷ cs) = if-done (replyNumber b c) (out b c) [] ++ gather out (bookAfter b c) cs
+gather out b (c ∷ cs) = if_done (reply_number b c) (out b c) [] ++ gather out (book_after b c) cs
 
 abbrev pub itself : Book → Call → List Call
 itself b c = c ∷ []
@@ -71,5 +71,5 @@ abbrev pub settlements : Book → List Call → List Payment
 settlements b cs = gather settling b cs
 
 -- what the (k+1)th send sends: one payment, or nothing where there are not so many sends
-abbrev pub sentAfter : ℕ → Book → List Call → List Payment
-sentAfter k b cs = take 1 (drop k (sends b cs))
+abbrev pub sent_after : ℕ → Book → List Call → List Payment
+sent_after k b cs = take 1 (drop k (sends b cs))

@@ -22,8 +22,8 @@ session =
     ∷ [])
 
 -- the fourteen lines
-unfoldable pub sessionOutput : List ℕ
-sessionOutput =
+unfoldable pub session_output : List ℕ
+session_output =
     joined bytes
     ("1\t0\n"
     ∷ "2\t0\n"

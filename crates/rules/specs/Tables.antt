@@ -13,7 +13,7 @@ pub record Shape (A : Type 0) : Type 0 where
 pub data Edit (A : Type 0) : Type 0 where
   keep : Edit A
   add : A → Edit A
-  takeOut : ℕ → Edit A
+  take_out : ℕ → Edit A
   change : ℕ → A → Edit A
 
 module _ {A : Type 0} where
@@ -32,7 +32,7 @@ module _ {A : Type 0} where
   unfoldable pub edited : Edit A → List A → List A
   edited keep rows = rows
   edited (add a) rows = rows ++ (a ∷ [])
-  edited (takeOut i) rows = take i rows ++ drop (suc i) rows
+  edited (take_out i) rows = take i rows ++ drop (suc i) rows
   edited (change i a) rows = set rows i a
 
   -- the edit that adds these rows, of which there is one at most
@@ -46,20 +46,20 @@ unfoldable pub splice : ℕ → List ℕ → List ℕ → List ℕ
 splice at r t = take at t ++ r ++ drop (at + length r) t
 
 -- a table of n used rows with row i taken out: the rows after it move up, and "the last used row becomes zeros"
-unfoldable pub withoutRow : ℕ → ℕ → ℕ → List ℕ → List ℕ
-withoutRow width i n t =
+unfoldable pub without_row : ℕ → ℕ → ℕ → List ℕ → List ℕ
+without_row width i n t =
     take (i * width) t ++ take ((n - suc i) * width) (drop (suc i * width) t) ++ replicate width 0 ++ drop (n * width) t
 
-unfoldable pub editedTable : {A : Type 0} → Shape A → Edit A → ℕ → List ℕ → List ℕ
-editedTable shape Edit.keep n t = t
-editedTable shape (Edit.add a) n t = splice (n * shape.width) (shape.flat a) t
-editedTable shape (Edit.takeOut i) n t = withoutRow shape.width i n t
-editedTable shape (Edit.change i a) n t = splice (i * shape.width) (shape.flat a) t
+unfoldable pub edited_table : {A : Type 0} → Shape A → Edit A → ℕ → List ℕ → List ℕ
+edited_table shape Edit.keep n t = t
+edited_table shape (Edit.add a) n t = splice (n * shape.width) (shape.flat a) t
+edited_table shape (Edit.take_out i) n t = without_row shape.width i n t
+edited_table shape (Edit.change i a) n t = splice (i * shape.width) (shape.flat a) t
 
 -- ---- the three kinds of row
 -- number, asset, amount, member
-abbrev pub depositShape : Shape Deposit
-depositShape =
+abbrev pub deposit_shape : Shape Deposit
+deposit_shape =
     record {
       width = 4;
       flat = λ d. d.number.0 ∷ d.asset ∷ d.amount ∷ d.member ∷ [];
@@ -67,8 +67,8 @@ depositShape =
     }
 
 -- asset, amount, payee, nonce
-abbrev pub paymentShape : Shape Payment
-paymentShape =
+abbrev pub payment_shape : Shape Payment
+payment_shape =
     record {
       width = 4;
       flat = λ p. p.asset ∷ p.amount ∷ p.payee ∷ p.nonce.0 ∷ [];
@@ -76,8 +76,8 @@ paymentShape =
     }
 
 -- kind, asset, amount, first, second
-abbrev pub recordShape : Shape Record
-recordShape =
+abbrev pub record_shape : Shape Record
+record_shape =
     record {
       width = 5;
       flat = λ r. r.kind ∷ r.asset ∷ r.amount ∷ r.first ∷ r.second ∷ [];
@@ -85,11 +85,11 @@ recordShape =
     }
 
 -- one of each kind, to stand where there is none: a row of no numbers, which is read as zeros
-abbrev pub noDeposit : Deposit
-noDeposit = depositShape.row []
+abbrev pub no_deposit : Deposit
+no_deposit = deposit_shape.row []
 
-abbrev pub noPayment : Payment
-noPayment = paymentShape.row []
+abbrev pub no_payment : Payment
+no_payment = payment_shape.row []
 
-abbrev pub noRecord : Record
-noRecord = recordShape.row []
+abbrev pub no_record : Record
+no_record = record_shape.row []

@@ -10,42 +10,42 @@ use lib.ListN.{length, get_or, take, set}
 use lib.Seq.{length-take-le, take-suc, take-suc-set}
 use borrow.Author.Tests.{lt-ltb, le-ltb, eq-eqb}
 use Rattle.rules.specs.declared.calls.Line.{Line}
-use Rattle.rules.specs.Limits.{mostHeld}
-use Rattle.rules.specs.Lines.{readLine}
-use Rattle.rules.specs.Transcript.{replyText}
+use Rattle.rules.specs.Limits.{most_held}
+use Rattle.rules.specs.Lines.{read_line}
+use Rattle.rules.specs.Transcript.{reply_text}
 use Rattle.pages.specs.Writing.{Page, page, put}
 use Rattle.pages.proofs.PageLaws.{put_then, put-nothing}
 use Rattle.runner.specs.declared.running.Running.{Running}
-use Rattle.runner.specs.Machine.{Machine, held_with, outcomeFor, afterLine, fed, written, feeds, writes}
+use Rattle.runner.specs.Machine.{Machine, held_with, outcome_for, after_line, fed, written, feeds, writes}
 use Rattle.runner.specs.Running.{machine_of}
 use Rattle.runner.proofs.Cuts.{feeds-append, writes-append}
 use Rattle.runner.proofs.Room.{fits_more}
 
 -- ---- one byte held
-pub hold-more : (t : List ℕ) (n b : ℕ) → n < mostHeld → length t ≡ mostHeld → take (n + 1) (set t n b) ≡ held_with (take n t) b
+pub hold-more : (t : List ℕ) (n b : ℕ) → n < most_held → length t ≡ most_held → take (n + 1) (set t n b) ≡ held_with (take n t) b
 unfolding held_with
 hold-more t n b h l =
     let f : n < length t = omega arith in
     let k : length (take n t) ≡ n = length-take-le n t (omega arith) in
-    rw (add-one n, take-suc-set t n b f, k, lt-ltb n mostHeld h)
+    rw (add-one n, take-suc-set t n b f, k, lt-ltb n most_held h)
 
-pub hold-full : (t : List ℕ) (n b : ℕ) → mostHeld ≤ n → n ≤ mostHeld → length t ≡ mostHeld → take n t ≡ held_with (take n t) b
+pub hold-full : (t : List ℕ) (n b : ℕ) → most_held ≤ n → n ≤ most_held → length t ≡ most_held → take n t ≡ held_with (take n t) b
 unfolding held_with
 hold-full t n b h g l =
     let k : length (take n t) ≡ n = length-take-le n t (omega arith) in
-    rw (k, le-ltb n mostHeld h)
+    rw (k, le-ltb n most_held h)
 
 -- ---- one byte fed
 module _ (run : Running) (i o h held : List ℕ) (b : ℕ) where
-  abbrev pub now-at : Machine
-  now-at = machine_of run i o h held
+  abbrev pub now_at : Machine
+  now_at = machine_of run i o h held
 
   -- a line feed
-  pub line-fed : run.line ≤ 100000 → b ≡ 10 → (l : Line) → l ≡ readLine held → (m : Machine) → m ≡ afterLine (machine_of run i o h []) (outcomeFor (machine_of run i o h []) l) → m ≡ fed now-at b
+  pub line-fed : run.line ≤ 100000 → b ≡ 10 → (l : Line) → l ≡ read_line held → (m : Machine) → m ≡ after_line (machine_of run i o h []) (outcome_for (machine_of run i o h []) l) → m ≡ fed now_at b
   unfolding fed
   line-fed s n l r m e = rw (le-ltb 100000 run.line s, eq-eqb b 10 n, ← r) e
 
-  pub line-written : run.line ≤ 100000 → b ≡ 10 → (l : Line) → l ≡ readLine held → (p : Page) {q : Page} → q ≡ put p (replyText run.line (outcomeFor (machine_of run i o h []) l)) → q ≡ put p (written now-at b)
+  pub line-written : run.line ≤ 100000 → b ≡ 10 → (l : Line) → l ≡ read_line held → (p : Page) {q : Page} → q ≡ put p (reply_text run.line (outcome_for (machine_of run i o h []) l)) → q ≡ put p (written now_at b)
   unfolding written
   line-written s n l r p e = rw (le-ltb 100000 run.line s, eq-eqb b 10 n, ← r) e
 
@@ -55,9 +55,9 @@ module _ (m : Machine) (chunk : List ℕ) (k : ℕ) (here : k < length chunk) {m
   unfolding feeds
   feed-more f = rw (add-one k, take-suc chunk k 0 here, feeds-append m (take k chunk) (get_or chunk k 0 ∷ []), ← e) f
 
-  pub write-more : (p : Page) {q r : Page} → q ≡ put p (writes m (take k chunk)) → r ≡ put q (written m' (get_or chunk k 0)) → r ≡ put p (writes m (take (k + 1) chunk))
+  pub write_more : (p : Page) {q r : Page} → q ≡ put p (writes m (take k chunk)) → r ≡ put q (written m' (get_or chunk k 0)) → r ≡ put p (writes m (take (k + 1) chunk))
   unfolding writes
-  write-more p f g =
+  write_more p f g =
       rw (add-one k, take-suc chunk k 0 here, writes-append m (take k chunk) (get_or chunk k 0 ∷ []), ← e, append-nil)
       (put_then p (writes m (take k chunk)) (written m' (get_or chunk k 0)) f g)
 

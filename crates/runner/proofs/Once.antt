@@ -9,7 +9,7 @@ use Rattle.rules.specs.Coincide.{Two, Coincide, AnyTwo}
 use Rattle.rules.proofs.Told.{once}
 use Rattle.rules.proofs.Coincide.{both}
 use Rattle.pages.specs.Writing.{Page, page}
-use Rattle.pages.proofs.Once.{page-once}
+use Rattle.pages.proofs.Once.{page_once}
 use Rattle.runner.specs.declared.running.Running.{Running}
 use Rattle.runner.specs.declared.feed.Feeding.{Feeding}
 use Rattle.runner.specs.Machine.{Machine}
@@ -21,9 +21,9 @@ use Rattle.runner.specs.contracts.feed.close as close
 use Rattle.runner.specs.contracts.start.start as start
 
 -- ---- the desk, tally and line number, every number of the three tables, and the bytes that are held
-machine-once : (m : Machine) {r r' : Running} {i i' o o' h h' held held' : List ℕ} → machine_of r i o h held ≡ m → machine_of r' i' o' h' held' ≡ m
+machine_once : (m : Machine) {r r' : Running} {i i' o o' h h' held held' : List ℕ} → machine_of r i o h held ≡ m → machine_of r' i' o' h' held' ≡ m
     → (r ≡ r') × (i ≡ i') × (o ≡ o') × (h ≡ h') × (held ≡ held')
-machine-once m {r} {r'} e f =
+machine_once m {r} {r'} e f =
     let d : r.desk ≡ r'.desk = ap (λ (x : Machine). x.book.desk) (e ∙ sym f) in
     let t : r.tally ≡ r'.tally = ap (λ (x : Machine). x.tally) (e ∙ sym f) in
     let n : r.line ≡ r'.line = ap (λ (x : Machine). x.line) (e ∙ sym f) in (
@@ -53,19 +53,19 @@ OneRun x =
 held-length : (k : Kept) → Ready k.feeding k.hold → length (take k.feeding.held k.hold) ≡ k.feeding.held
 held-length k a = length-take-le k.feeding.held k.hold (omega (arith, a.held, a.size))
 
-fed-once : (b : Kept) (chunk : List ℕ) {n n' : ℕ} {k k' : Kept} → RunSome b chunk n k → RunSome b chunk n' k' → n ≡ n' → SameKept k k'
-fed-once b chunk {k = k} {k' = k'} p q e =
-    let m = machine-once _ p.machine (rw (← e) at q.machine) in
-    let g = page-once _ p.page (rw (← e) at q.page) in
+fed_once : (b : Kept) (chunk : List ℕ) {n n' : ℕ} {k k' : Kept} → RunSome b chunk n k → RunSome b chunk n' k' → n ≡ n' → SameKept k k'
+fed_once b chunk {k = k} {k' = k'} p q e =
+    let m = machine_once _ p.machine (rw (← e) at q.machine) in
+    let g = page_once _ p.page (rw (← e) at q.page) in
     let h : k.feeding.held ≡ k'.feeding.held = sym (held-length k p.ready) ∙ ap (λ (s : List ℕ). length s) m.4 ∙ held-length k' q.ready in
     record { feeding = λ j. record { running = m.0 j; held = h j; at = g.0 j }; inbox = m.1; outbox = m.2; history = m.3; held = m.4; out = g.1 }
 
-pub run-some-once : AnyTwo run-some.ended (λ M 𝓤. run-some.clauses 𝓤) OneRun
-run-some-once w x g = both w (fed-once _ _)
+pub run_some_once : AnyTwo run-some.ended (λ M 𝓤. run-some.clauses 𝓤) OneRun
+run_some_once w x g = both w (fed_once _ _)
 
 -- ---- start and close
-pub start-once : Coincide start.ended (λ M 𝓤. start.clauses 𝓤)
-start-once w x g =
+pub start_once : Coincide start.ended (λ M 𝓤. start.clauses 𝓤)
+start_once w x g =
     both w (λ p q.
     let d = once _ p.desk q.desk in
     let t = once _ p.tally q.tally in
@@ -74,9 +74,9 @@ start-once w x g =
     let a = once _ p.at q.at in
     (λ j. record { running = record { desk = d j; tally = t j; line = n j }; held = h j; at = a j }, refl))
 
-closes-once : (f : Feeding) (hold : List ℕ) (before : Page) {r r' : ℕ} {o o' : List ℕ} → Closes f hold before (page o r) → Closes f hold before (page o' r') → (r ≡ r') × (o ≡ o')
+closes_once : (f : Feeding) (hold : List ℕ) (before : Page) {r r' : ℕ} {o o' : List ℕ} → Closes f hold before (page o r) → Closes f hold before (page o' r') → (r ≡ r') × (o ≡ o')
 unfolding Closes
-closes-once f hold before p q = page-once _ (p [] [] []) (q [] [] [])
+closes_once f hold before p q = page_once _ (p [] [] []) (q [] [] [])
 
-pub close-once : Coincide close.ended (λ M 𝓤. close.clauses 𝓤)
-close-once w x g = both w (λ p q. let e = closes-once _ _ _ p.page q.page in (e.0, λ j. (tt, (tt, (e.1 j, tt)))))
+pub close_once : Coincide close.ended (λ M 𝓤. close.clauses 𝓤)
+close_once w x g = both w (λ p q. let e = closes_once _ _ _ p.page q.page in (e.0, λ j. (tt, (tt, (e.1 j, tt)))))

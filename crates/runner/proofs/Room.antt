@@ -10,25 +10,25 @@ use borrow.Author.Tests.{leb-true}
 use Rattle.rules.specs.declared.rows.Lot.{Lot}
 use Rattle.rules.proofs.Told.{Telling, telling}
 use Rattle.rules.specs.Lists.{joined, bytes}
-use Rattle.rules.specs.Lines.{lineFeed, tab, spelled, decimal, tabbed, readLine, unread, readWhole}
+use Rattle.rules.specs.Lines.{line_feed, tab, spelled, decimal, tabbed, read_line, unread, read_whole}
 use Rattle.rules.specs.declared.calls.Call.{Call}
 use Rattle.rules.specs.declared.calls.Line.{Line}
 use Rattle.rules.specs.declared.answers.Answer.{Answer}
 use Rattle.rules.specs.declared.answers.Refusal.{Refusal}
-use Rattle.rules.specs.State.{Book, view, historyOf}
-use Rattle.rules.specs.Replies.{told, if-done, toldRefusal}
-use Rattle.rules.specs.Answer.{Outcome, answer, replyNumber, replyWith, pieces_of, doneAnswer}
+use Rattle.rules.specs.State.{Book, view, history_of}
+use Rattle.rules.specs.Replies.{told, if_done, told_refusal}
+use Rattle.rules.specs.Answer.{Outcome, answer, reply_number, reply_with, pieces_of, done_answer}
 use Rattle.rules.specs.Facts.{Accepted}
 use Rattle.rules.proofs.Accepts.{by_number, accepted-frame}
 use Rattle.lots.proofs.LotCounts.{pieces-count}
-use Rattle.lots.proofs.TraceJoin.{records-fit}
+use Rattle.lots.proofs.TraceJoin.{records_fit}
 use Rattle.rules.specs.declared.answers.Tally.{Tally}
-use Rattle.rules.specs.Transcript.{pieceValues, replyText, answerLine, endText}
-use Rattle.runner.specs.Machine.{Machine, stopped, outcomeFor, written, unfinishedText, atEnd, closing}
+use Rattle.rules.specs.Transcript.{piece_values, reply_text, answer_line, end_text}
+use Rattle.runner.specs.Machine.{Machine, stopped, outcome_for, written, unfinished_text, at_end, closing}
 use Rattle.pages.specs.Writing.{page, put}
 use Rattle.pages.proofs.PageLaws.{put_whole}
 use Rattle.runner.specs.declared.feed.Feeding.{Feeding}
-use Rattle.runner.specs.Feeding.{fedMachine, Closes, EndsWith}
+use Rattle.runner.specs.Feeding.{fed_machine, Closes, EndsWith}
 use Rattle.runner.specs.Kept.{Closed}
 
 -- a number has at most 20 digits
@@ -54,22 +54,22 @@ tabbed-length (n ∷ ns) =
     let i = tabbed-length ns in
     omega arith
 
-pieces-length : (ls : List Lot) → length (joined pieceValues ls) ≡ 2 * length ls
+pieces-length : (ls : List Lot) → length (joined piece_values ls) ≡ 2 * length ls
 unfolding joined
 pieces-length [] = refl
 pieces-length (l ∷ ls) = let i = pieces-length ls in omega arith
 
 line-length : (n m : ℕ) (vs : List ℕ) (ps : List Lot) → length vs ≤ 4 → length ps ≤ 1024
-    → length (decimal n ++ tabbed (m ∷ vs ++ joined pieceValues ps) ++ (lineFeed ∷ [])) ≤ 43134
+    → length (decimal n ++ tabbed (m ∷ vs ++ joined piece_values ps) ++ (line_feed ∷ [])) ≤ 43134
 line-length n m vs ps v p =
     let x = decimal-length n in
-    let y = tabbed-length ((m ∷ vs) ++ joined pieceValues ps) in
-    let z = length-append (m ∷ vs) (joined pieceValues ps) in
+    let y = tabbed-length ((m ∷ vs) ++ joined piece_values ps) in
+    let z = length-append (m ∷ vs) (joined piece_values ps) in
     let w = pieces-length ps in
     simp (length-append) (omega (arith, x, y, z, w))
 
-pub reply-length : (n : ℕ) (o : Outcome) → length o.reply.values ≤ 4 → length o.pieces ≤ 1024 → length (replyText n o) ≤ 43134
-unfolding replyText
+pub reply-length : (n : ℕ) (o : Outcome) → length o.reply.values ≤ 4 → length o.pieces ≤ 1024 → length (reply_text n o) ≤ 43134
+unfolding reply_text
 reply-length n o v p = line-length n o.reply.number o.reply.values o.pieces v p
 
 -- ---- what a line is answered
@@ -80,11 +80,11 @@ values-few (Answer.Sent p) = omega arith
 values-few (Answer.Traced n) = omega arith
 values-few (Answer.Refused r) = go (telling r)
   where
-    go : {x : Refusal} → Telling x → length (toldRefusal x).values ≤ 4
-    go (Telling.field k) = unfold toldRefusal in omega arith
+    go : {x : Refusal} → Telling x → length (told_refusal x).values ≤ 4
+    go (Telling.field k) = unfold told_refusal in omega arith
     go (Telling.alone e) = rw e (omega arith)
 
-reply-few : (n : ℕ) (a : Answer) → length (replyWith n (told a)).values ≤ 4
+reply-few : (n : ℕ) (a : Answer) → length (reply_with n (told a)).values ≤ 4
 reply-few zero a = values-few a
 reply-few (suc n) a = omega arith
 
@@ -99,54 +99,54 @@ pieces-few b (Call.Settle n) a = omega arith
 pieces-few b (Call.Grant g) a = omega arith
 pieces-few b (Call.Sign g) a = omega arith
 pieces-few b (Call.Trace n) a =
-    let x = records-fit b (accepted-frame b (Call.Trace n) a) in
-    let y = pieces-count (historyOf b) n in
+    let x = records_fit b (accepted-frame b (Call.Trace n) a) in
+    let y = pieces-count (history_of b) n in
     omega arith
 
-done-few : (n : ℕ) (ps : List Lot) → (n ≡ 0 → length ps ≤ 1024) → length (if-done n ps []) ≤ 1024
+done-few : (n : ℕ) (ps : List Lot) → (n ≡ 0 → length ps ≤ 1024) → length (if_done n ps []) ≤ 1024
 done-few zero ps h = h refl
 done-few (suc n) ps h = omega arith
 
-line-fits : (n : ℕ) (b : Book) (l : Line) → length (replyText n (answerLine b l)) ≤ 43134
-unfolding answerLine answer
+line-fits : (n : ℕ) (b : Book) (l : Line) → length (reply_text n (answer_line b l)) ≤ 43134
+unfolding answer_line answer
 line-fits n b (Line.Reads c) =
-    reply-length n (answer b c) (reply-few (replyNumber b c) (doneAnswer (view b) c))
-    (done-few (replyNumber b c) (pieces_of (view b) c) (λ e. pieces-few b c (by_number b c e)))
-line-fits n b (Line.Malformed k) = reply-length n (answerLine b (Line.Malformed k)) (values-few (Answer.Refused (Refusal.Malformed k))) (omega arith)
+    reply-length n (answer b c) (reply-few (reply_number b c) (done_answer (view b) c))
+    (done-few (reply_number b c) (pieces_of (view b) c) (λ e. pieces-few b c (by_number b c e)))
+line-fits n b (Line.Malformed k) = reply-length n (answer_line b (Line.Malformed k)) (values-few (Answer.Refused (Refusal.Malformed k))) (omega arith)
 
 -- no byte makes the machine write more
 pub written-fits : (m : Machine) (b : ℕ) → length (written m b) ≤ 43134
 unfolding written
-written-fits m b = go (stopped m) (eqb b lineFeed)
+written-fits m b = go (stopped m) (eqb b line_feed)
   where
-    go : (t u : Bool) → length (cond t [] (cond u (replyText m.line (outcomeFor m (readLine m.held))) [])) ≤ 43134
+    go : (t u : Bool) → length (cond t [] (cond u (reply_text m.line (outcome_for m (read_line m.held))) [])) ≤ 43134
     go true u = omega arith
-    go false true = line-fits m.line m.book (readLine m.held)
+    go false true = line-fits m.line m.book (read_line m.held)
     go false false = omega arith
 
 -- nor does the end of the input
-end-length : (t : Tally) → length (endText t) ≤ 46
-unfolding endText bytes
-end-length t =
+end_length : (t : Tally) → length (end_text t) ≤ 46
+unfolding end_text bytes
+end_length t =
     let x = tabbed-length (t.done ∷ t.other ∷ []) in
     let y : length (bytes "end") ≡ 3 = refl in
     simp (length-append) (omega (arith, x, y))
 
-unfinished-fits : (held : List ℕ) (m : Machine) → length (unfinishedText held m) ≤ 43134
-unfolding unfinishedText
+unfinished-fits : (held : List ℕ) (m : Machine) → length (unfinished_text held m) ≤ 43134
+unfolding unfinished_text
 unfinished-fits [] m = omega arith
-unfinished-fits (b ∷ bs) m = line-fits m.line m.book (unread (readWhole (b ∷ bs)))
+unfinished-fits (b ∷ bs) m = line-fits m.line m.book (unread (read_whole (b ∷ bs)))
 
 pub closing-fits : (m : Machine) → length (closing m) ≤ 45000
 unfolding closing
 closing-fits m = go (stopped m)
   where
-    go : (t : Bool) → length (cond t [] (unfinishedText m.held m) ++ endText (atEnd m).tally) ≤ 45000
-    go true = let e = end-length (atEnd m).tally in omega arith
+    go : (t : Bool) → length (cond t [] (unfinished_text m.held m) ++ end_text (at_end m).tally) ≤ 45000
+    go true = let e = end_length (at_end m).tally in omega arith
     go false =
-        let e = end-length (atEnd m).tally in
+        let e = end_length (at_end m).tally in
         let u = unfinished-fits m.held m in
-        let l = length-append (unfinishedText m.held m) (endText (atEnd m).tally) in
+        let l = length-append (unfinished_text m.held m) (end_text (at_end m).tally) in
         omega arith
 
 -- ---- a page on which all is written that was to be
@@ -168,5 +168,5 @@ pub closed_all : (f : Feeding) (hold o₀ o : List ℕ) (at : ℕ) → Closes f 
 unfolding Closes EndsWith
 closed_all f hold o₀ o at e h = record { page = e; text = λ x y z. (one x y z).0; within = (one [] [] []).1 }
   where
-    one : (x y z : List ℕ) → (take at o ≡ take f.at o₀ ++ closing (fedMachine f x y z hold)) × (at ≤ length o)
-    one x y z = whole o o₀ at f.at (closing (fedMachine f x y z hold)) (e x y z) (let c = closing-fits (fedMachine f x y z hold) in omega arith)
+    one : (x y z : List ℕ) → (take at o ≡ take f.at o₀ ++ closing (fed_machine f x y z hold)) × (at ≤ length o)
+    one x y z = whole o o₀ at f.at (closing (fed_machine f x y z hold)) (e x y z) (let c = closing-fits (fed_machine f x y z hold) in omega arith)

@@ -2,11 +2,11 @@
 use Rattle.std.specs.Prelude.{ℕ, ◌+◌, Bool, cond, List, [], ◌∷◌, ◌++◌, ltb, eqb, length}
 use Rattle.rules.specs.declared.calls.Line.{Line}
 use Rattle.rules.specs.declared.answers.Tally.{Tally}
-use Rattle.rules.specs.Limits.{mostHeld, mostLines}
-use Rattle.rules.specs.State.{Book, emptyBook}
+use Rattle.rules.specs.Limits.{most_held, most_lines}
+use Rattle.rules.specs.State.{Book, empty_book}
 use Rattle.rules.specs.Answer.{Outcome}
-use Rattle.rules.specs.Lines.{lineFeed, readWhole, unread, readLine}
-use Rattle.rules.specs.Transcript.{answerLine, replyText, tallied, endText}
+use Rattle.rules.specs.Lines.{line_feed, read_whole, unread, read_line}
+use Rattle.rules.specs.Transcript.{answer_line, reply_text, tallied, end_text}
 
 -- the book, the tally, the number of the line that comes next, and the bytes of it that came so far
 pub record Machine : Type 0 where
@@ -16,15 +16,15 @@ pub record Machine : Type 0 where
   pub held : List ℕ
 
 unfoldable pub start : Machine
-start = record { book = emptyBook; tally = record { done = 0; other = 0 }; line = 1; held = [] }
+start = record { book = empty_book; tally = record { done = 0; other = 0 }; line = 1; held = [] }
 
 -- the book runner "stops after 100,000 lines"
 abbrev pub stopped : Machine → Bool
-stopped m = ltb mostLines m.line
+stopped m = ltb most_lines m.line
 
 -- one byte more of a line. Of a line over 120 bytes no more than 121 are held: they tell the field of the whole line (crate lines, proofs/Held)
 unfoldable pub held_with : List ℕ → ℕ → List ℕ
-held_with before b = cond (ltb (length before) mostHeld) (before ++ (b ∷ [])) before
+held_with before b = cond (ltb (length before) most_held) (before ++ (b ∷ [])) before
 
 -- many bytes more of a line
 unfoldable pub holds : List ℕ → List ℕ → List ℕ
@@ -32,21 +32,21 @@ holds before [] = before
 holds before (b ∷ bs) = holds (held_with before b) bs
 
 -- what a line is answered, and the machine after that
-abbrev pub outcomeFor : Machine → Line → Outcome
-outcomeFor m l = answerLine m.book l
+abbrev pub outcome_for : Machine → Line → Outcome
+outcome_for m l = answer_line m.book l
 
-abbrev pub afterLine : Machine → Outcome → Machine
-afterLine m o = record { book = o.book; tally = tallied m.tally o.reply.number; line = m.line + 1; held = [] }
+abbrev pub after_line : Machine → Outcome → Machine
+after_line m o = record { book = o.book; tally = tallied m.tally o.reply.number; line = m.line + 1; held = [] }
 
 abbrev pub holding : Machine → List ℕ → Machine
 holding m held = record { book = m.book; tally = m.tally; line = m.line; held = held }
 
 -- the machine after a byte, and what it writes for it
 unfoldable pub fed : Machine → ℕ → Machine
-fed m b = cond (stopped m) m (cond (eqb b lineFeed) (afterLine m (outcomeFor m (readLine m.held))) (holding m (held_with m.held b)))
+fed m b = cond (stopped m) m (cond (eqb b line_feed) (after_line m (outcome_for m (read_line m.held))) (holding m (held_with m.held b)))
 
 unfoldable pub written : Machine → ℕ → List ℕ
-written m b = cond (stopped m) [] (cond (eqb b lineFeed) (replyText m.line (outcomeFor m (readLine m.held))) [])
+written m b = cond (stopped m) [] (cond (eqb b line_feed) (reply_text m.line (outcome_for m (read_line m.held))) [])
 
 -- after many bytes
 unfoldable pub feeds : Machine → List ℕ → Machine
@@ -60,20 +60,20 @@ writes m (b ∷ bs) = written m b ++ writes (fed m b) bs
 -- at the end of the input: an unfinished last line is Malformed, and last comes `end`
 unfoldable pub unfinished : List ℕ → Machine → Machine
 unfinished [] m = m
-unfinished (b ∷ bs) m = afterLine m (outcomeFor m (unread (readWhole (b ∷ bs))))
+unfinished (b ∷ bs) m = after_line m (outcome_for m (unread (read_whole (b ∷ bs))))
 
-unfoldable pub unfinishedText : List ℕ → Machine → List ℕ
-unfinishedText [] m = []
-unfinishedText (b ∷ bs) m = replyText m.line (outcomeFor m (unread (readWhole (b ∷ bs))))
+unfoldable pub unfinished_text : List ℕ → Machine → List ℕ
+unfinished_text [] m = []
+unfinished_text (b ∷ bs) m = reply_text m.line (outcome_for m (unread (read_whole (b ∷ bs))))
 
 -- the machine at the very end, and what it writes there
-unfoldable pub atEnd : Machine → Machine
-atEnd m = cond (stopped m) m (unfinished m.held m)
+unfoldable pub at_end : Machine → Machine
+at_end m = cond (stopped m) m (unfinished m.held m)
 
 unfoldable pub closing : Machine → List ℕ
-closing m = cond (stopped m) [] (unfinishedText m.held m) ++ endText (atEnd m).tally
+closing m = cond (stopped m) [] (unfinished_text m.held m) ++ end_text (at_end m).tally
 
 -- all that is written for an input that comes in these reads, and at its end
-unfoldable pub writesAll : Machine → List (List ℕ) → List ℕ
-writesAll m [] = closing m
-writesAll m (r ∷ rs) = writes m r ++ writesAll (feeds m r) rs
+unfoldable pub writes_all : Machine → List (List ℕ) → List ℕ
+writes_all m [] = closing m
+writes_all m (r ∷ rs) = writes m r ++ writes_all (feeds m r) rs

@@ -6,9 +6,9 @@ use Rattle.rules.specs.declared.answers.Refusal.{Refusal}
 use Rattle.rules.specs.declared.answers.Answer.{Answer}
 use Rattle.rules.specs.State.{Book}
 use Rattle.rules.specs.Replies.{told}
-use Rattle.rules.specs.Answer.{Outcome, bookOf}
+use Rattle.rules.specs.Answer.{Outcome, book_of}
 use Rattle.rules.specs.Facts.{Accepted}
-use Rattle.rules.specs.Transcript.{answerLine, replyText, tallied}
+use Rattle.rules.specs.Transcript.{answer_line, reply_text, tallied}
 use Rattle.pages.specs.Writing.{Page, page, put}
 use Rattle.runner.specs.declared.running.Running.{Running}
 use Rattle.runner.specs.declared.running.Written.{Written}
@@ -18,10 +18,10 @@ use Rattle.runner.specs.Machine.{Machine}
 
 -- the desk, tally and line number by value, the three lent tables, and the bytes that are held of a line
 abbrev pub machine_of : Running → List ℕ → List ℕ → List ℕ → List ℕ → Machine
-machine_of r inbox outbox history held = record { book = bookOf r.desk inbox outbox history; tally = r.tally; line = r.line; held = held }
+machine_of r inbox outbox history held = record { book = book_of r.desk inbox outbox history; tally = r.tally; line = r.line; held = held }
 
-abbrev pub runningOf : Desk → Written → Running
-runningOf d w = record { desk = d; tally = w.tally; line = w.line }
+abbrev pub running_of : Desk → Written → Running
+running_of d w = record { desk = d; tally = w.tally; line = w.line }
 
 -- what a line is answered that is none of the forms, and tells this field
 abbrev pub malformed : ℕ → Answer
@@ -41,12 +41,12 @@ pub record Few (w : Written) : Type 0 where
 
 -- what a line comes to: where its reply is all, the book is left as it was; a call that is due is what the line reads as, and nothing refuses it
 unfoldable pub Hears : Book → Line → Heard → Type 0
-Hears b l (Heard.Said a) = answerLine b l ≡ record { reply = told a; pieces = []; book = b }
+Hears b l (Heard.Said a) = answer_line b l ≡ record { reply = told a; pieces = []; book = b }
 Hears b l (Heard.Due c) = (l ≡ Line.Reads c) × Accepted b c
 
 -- what a line leaves that has this outcome: the book, the tally raised once, the next line's number, and the page with the reply's text
 pub record Leaves (w : Written) (p : Page) (o : Outcome) (r : After) (inbox outbox history out : List ℕ) : Type 0 where
-  pub book : bookOf r.desk inbox outbox history ≡ o.book
+  pub book : book_of r.desk inbox outbox history ≡ o.book
   pub tally : r.written.tally ≡ tallied w.tally o.reply.number
   pub line : r.written.line ≡ w.line + 1
-  pub text : page out r.written.at ≡ put p (replyText w.line o)
+  pub text : page out r.written.at ≡ put p (reply_text w.line o)

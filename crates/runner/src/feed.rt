@@ -1,10 +1,10 @@
 // The input line after line, however it is cut into reads.
 ghost use Rattle.std.specs.Prelude.{◌+◌, ◌-◌, ◌≤◌, leb, ◌≡◌, length, take, not, true};
-ghost use Rattle.rules.specs.Limits.{mostHeld};
+ghost use Rattle.rules.specs.Limits.{most_held};
 ghost use Rattle.rules.specs.Lists.{all};
-ghost use Rattle.rules.specs.Lines.{readLine};
+ghost use Rattle.rules.specs.Lines.{read_line};
 ghost use Rattle.runner.specs.Machine.{held_with, holds};
-ghost use Rattle.runner.specs.Feeding.{feedingOf, Ready, noFeed, NextFeed};
+ghost use Rattle.runner.specs.Feeding.{feeding_of, Ready, no_feed, NextFeed};
 ghost use Rattle.runner.specs.Kept.{kept, RunSome, Closed};
 
 use crate::running::{Heard, Running, Written, answer_call, answer_said, hear};
@@ -27,10 +27,10 @@ pub struct Feeding {
 // One byte more of a line. Of a line over 120 bytes no more than 121 are held: they tell the field of the
 // whole line.
 fn hold_byte(hold: &mut [u8], held: usize, b: u8) -> usize
-    requires held_le_most_held { held ≤ mostHeld }
-    requires hold_len { length hold.old ≡ mostHeld }
+    requires held_le_most_held { held ≤ most_held }
+    requires hold_len { length hold.old ≡ most_held }
     ensures hold_after { take result hold.new ≡ held_with (take held hold.old) b }
-    ensures upper_bound { result ≤ mostHeld }
+    ensures upper_bound { result ≤ most_held }
 {
     if held < MOST_HELD {
         hold[held] = b;
@@ -48,10 +48,10 @@ pub struct Fed {
 
 // Holds the bytes of a part of a line, one after the other.
 fn hold_part(hold: &mut [u8], held: usize, part: &[u8]) -> usize
-    requires held_le_most_held { held ≤ mostHeld }
-    requires hold_len { length hold.old ≡ mostHeld }
+    requires held_le_most_held { held ≤ most_held }
+    requires hold_len { length hold.old ≡ most_held }
     ensures hold_after { take result hold.new ≡ holds (take held hold.old) part.now }
-    ensures upper_bound { result ≤ mostHeld }
+    ensures upper_bound { result ≤ most_held }
 {
     let mut n = held;
     let mut k: usize = 0;
@@ -87,7 +87,7 @@ fn first_feed(s: &[u8]) -> usize
 // Of a long line the bytes are tested 32 at a time: up to here there is no line feed.
 fn blocks_without(s: &[u8]) -> usize
     ensures upper_bound { result ≤ length s.now }
-    ensures s_value { all noFeed (take result s.now) ≡ true }
+    ensures s_value { all no_feed (take result s.now) ≡ true }
 {
     let mut i: usize = 0;
     while 32 <= s.len() - i {
@@ -101,7 +101,7 @@ fn blocks_without(s: &[u8]) -> usize
 
 // Whether a line feed is among the bytes. It looks at all of them: so the compiler can test many at once.
 fn has_feed(s: &[u8]) -> bool
-    ensures { not result ≡ all noFeed s.now }
+    ensures { not result ≡ all no_feed s.now }
 {
     let mut found = false;
     let mut i: usize = 0;
@@ -114,9 +114,9 @@ fn has_feed(s: &[u8]) -> bool
 
 // Reads the line whose last part this is. Where nothing of it is held it is read where it lies.
 fn whole_line(hold: &mut [u8], held: usize, part: &[u8]) -> Line
-    requires held_le_most_held { held ≤ mostHeld }
-    requires hold_len { length hold.old ≡ mostHeld }
-    ensures { result ≡ readLine (holds (take held hold.old) part.now) }
+    requires held_le_most_held { held ≤ most_held }
+    requires hold_len { length hold.old ≡ most_held }
+    ensures { result ≡ read_line (holds (take held hold.old) part.now) }
 {
     if held == 0 {
         return read_line(part);
@@ -194,7 +194,7 @@ pub fn run_some(
 
 // What is kept so far, and how far it came.
 fn so_far(desk: Desk, w: Written, held: usize, next: usize) -> Fed
-    ensures { result ≡ record { feeding = feedingOf desk w held; next = next } }
+    ensures { result ≡ record { feeding = feeding_of desk w held; next = next } }
 {
     let tally = w.tally;
     let running = Running {

@@ -1,13 +1,13 @@
 // One line in, one line out: a line that leaves the book as it was is told, a call that nothing refuses is stepped, and
 // the tally is raised once.
 ghost use Rattle.std.specs.Prelude.{◌+◌, ◌≡◌};
-ghost use Rattle.rules.specs.Answer.{bookOf, answer};
+ghost use Rattle.rules.specs.Answer.{book_of, answer};
 ghost use Rattle.rules.specs.Facts.{Accepted};
 ghost use Rattle.rules.specs.Replies.{told};
 ghost use Rattle.rules.specs.Transcript.{tallied};
-ghost use Rattle.desk.specs.Kept.{deskWith};
+ghost use Rattle.desk.specs.Kept.{desk_with};
 ghost use Rattle.pages.specs.Writing.{page, put};
-ghost use Rattle.replies.specs.Writing.{replyLine};
+ghost use Rattle.replies.specs.Writing.{reply_line};
 ghost use Rattle.runner.specs.Running.{Few, Hears, Leaves};
 
 use refusals::{call_reply, says_all};
@@ -56,7 +56,7 @@ pub(crate) fn hear<'a>(
     history: &[u64],
     l: Line,
 ) -> Heard
-    ensures { Hears (bookOf (deskWith balances.now holders.now lifetime.now settled.now counts) inbox.now outbox.now history.now) l result }
+    ensures { Hears (book_of (desk_with balances.now holders.now lifetime.now settled.now counts) inbox.now outbox.now history.now) l result }
 {
     match l {
         Line::Malformed(field) => {
@@ -82,7 +82,7 @@ pub(crate) fn answer_said(w: Written, out: &mut [u8], a: Answer) -> Written
     requires { Few w }
     ensures tally_value { result.tally ≡ tallied w.tally (told a).number }
     ensures line_value { result.line ≡ w.line + 1 }
-    ensures at_after { page out.new result.at ≡ put (page out.old w.at) (replyLine w.line (told a)) }
+    ensures at_after { page out.new result.at ≡ put (page out.old w.at) (reply_line w.line (told a)) }
 {
     let before = w.tally;
     let p = put_reply_line(out, w.at, w.line, a);
@@ -113,8 +113,8 @@ pub(crate) fn answer_call(
     c: Call,
 ) -> After
     requires few { Few w }
-    requires accepted { Accepted (bookOf d inbox.old outbox.old history.old) c }
-    ensures { Leaves w (page out.old w.at) (answer (bookOf d inbox.old outbox.old history.old) c) result inbox.new outbox.new history.new out.new }
+    requires accepted { Accepted (book_of d inbox.old outbox.old history.old) c }
+    ensures { Leaves w (page out.old w.at) (answer (book_of d inbox.old outbox.old history.old) c) result inbox.new outbox.new history.new out.new }
 {
     let at = w.at;
     let line = w.line;

@@ -1,6 +1,6 @@
 // The start of a session: an empty book, no line answered, no byte held.
 ghost use Rattle.std.specs.Prelude.{◌≡◌};
-ghost use Rattle.rules.specs.State.{deskOf, emptyState};
+ghost use Rattle.rules.specs.State.{desk_of, empty_state};
 ghost use Rattle.runner.specs.Feeding.{Begun};
 
 use crate::feed::Feeding;
@@ -29,7 +29,7 @@ pub fn start() -> Feeding
 
 // "All balances, totals and counts 0, last deposit number 0, next nonce 0, and member 1 holding every domain."
 fn empty_desk() -> Desk
-    ensures { result ≡ deskOf emptyState }
+    ensures { result ≡ desk_of empty_state }
 {
     let last = DepositNumber(0);
     let next = Nonce(0);

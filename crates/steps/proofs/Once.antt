@@ -7,15 +7,15 @@ use Rattle.rules.specs.Coincide.{Coincide}
 use Rattle.rules.specs.Transcript.{tallied}
 use Rattle.rules.proofs.Coincide.{one, joined, from_each, both, value}
 use Rattle.steps.specs.declared.step.Stepped.{Stepped}
-use Rattle.steps.specs.Step.{Replied, repliedOf}
+use Rattle.steps.specs.Step.{Replied, replied_of}
 use Rattle.steps.specs.contracts.step.step as step
 use Rattle.steps.specs.contracts.tally.raised as raised
 use Rattle.steps.specs.contracts.counted.tallied_step as tallied-step
 
 -- ---- step: the reply's number, the desk, every number of the three tables, the place and every byte of the page
-stepped-once : (y : Replied) {r r' : Stepped} {i i' o o' h h' out out' : List ℕ} → repliedOf r i o h out ≡ y → repliedOf r' i' o' h' out' ≡ y
+stepped_once : (y : Replied) {r r' : Stepped} {i i' o o' h h' out out' : List ℕ} → replied_of r i o h out ≡ y → replied_of r' i' o' h' out' ≡ y
     → (r ≡ r') × (i ≡ i') × (o ≡ o') × (h ≡ h') × (out ≡ out')
-stepped-once y {r} {r'} e f =
+stepped_once y {r} {r'} e f =
     let n : r.number ≡ r'.number = ap (λ (z : Replied). z.number) (e ∙ sym f) in
     let d : r.desk ≡ r'.desk = ap (λ (z : Replied). z.book.desk) (e ∙ sym f) in
     let a : r.at ≡ r'.at = ap (λ (z : Replied). z.text.upto) (e ∙ sym f) in (
@@ -26,20 +26,20 @@ stepped-once y {r} {r'} e f =
       ap (λ (z : Replied). z.text.bytes) (e ∙ sym f),
     )
 
-pub step-once : Coincide step.ended (λ M 𝓤. step.clauses 𝓤)
-step-once w x g = both w (λ p q. let s = stepped-once _ p q in (s.0, λ j. (tt, (s.1 j, (s.2 j, (s.3 j, (s.4 j, (tt, (tt, (tt, tt))))))))))
+pub step_once : Coincide step.ended (λ M 𝓤. step.clauses 𝓤)
+step_once w x g = both w (λ p q. let s = stepped_once _ p q in (s.0, λ j. (tt, (s.1 j, (s.2 j, (s.3 j, (s.4 j, (tt, (tt, (tt, tt))))))))))
 
 -- ---- the tally
-pub raised-once : Coincide raised.ended (λ M 𝓤. raised.clauses 𝓤)
-raised-once w x g = value w
+pub raised_once : Coincide raised.ended (λ M 𝓤. raised.clauses 𝓤)
+raised_once w x g = value w
 
 -- ---- tallied_step: the same as step, and the tally
-tally-once : (t : Tally) {r r' : Stepped} {u u' : Tally} → r ≡ r' → u ≡ tallied t r.number → u' ≡ tallied t r'.number → u ≡ u'
-tally-once t e p q = p ∙ ap (λ (r : Stepped). tallied t r.number) e ∙ sym q
+tally_once : (t : Tally) {r r' : Stepped} {u u' : Tally} → r ≡ r' → u ≡ tallied t r.number → u' ≡ tallied t r'.number → u ≡ u'
+tally_once t e p q = p ∙ ap (λ (r : Stepped). tallied t r.number) e ∙ sym q
 
-pub tallied-step-once : Coincide tallied-step.ended (λ M 𝓤. tallied-step.clauses 𝓤)
-tallied-step-once w x g =
+pub tallied_step_once : Coincide tallied-step.ended (λ M 𝓤. tallied-step.clauses 𝓤)
+tallied_step_once w x g =
     from_each w (joined w (one w) (one w)) (joined w (one w) (one w)) (λ p q.
-    let s = stepped-once _ p.0 q.0 in
-    let t = tally-once _ s.0 p.1 q.1 in
+    let s = stepped_once _ p.0 q.0 in
+    let t = tally_once _ s.0 p.1 q.1 in
     (λ j. record { stepped = s.0 j; tally = t j }, λ j. (tt, (s.1 j, (s.2 j, (s.3 j, (s.4 j, (tt, (tt, (tt, (tt, tt)))))))))))

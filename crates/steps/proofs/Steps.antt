@@ -10,72 +10,72 @@ use Rattle.rules.specs.declared.calls.Call.{Call}
 use Rattle.rules.specs.declared.calls.SignFields.{SignFields}
 use Rattle.rules.specs.declared.answers.Answer.{Answer}
 use Rattle.rules.specs.declared.answers.Answered.{Answered}
-use Rattle.rules.specs.Tables.{recordShape}
-use Rattle.rules.specs.State.{Book, view, historyOf}
-use Rattle.rules.specs.Replies.{Reply, number_of, told, plain, if-done}
-use Rattle.rules.proofs.Told.{refusal-number}
-use Rattle.rules.specs.Effects.{changesNothing}
-use Rattle.rules.specs.Answer.{answer, outcomeOf, replyNumber, replyWith, doneAnswer, pieces_of, traceAnswer, TraceOutcome}
+use Rattle.rules.specs.Tables.{record_shape}
+use Rattle.rules.specs.State.{Book, view, history_of}
+use Rattle.rules.specs.Replies.{Reply, number_of, told, plain, if_done}
+use Rattle.rules.proofs.Told.{refusal_number}
+use Rattle.rules.specs.Effects.{changes_nothing}
+use Rattle.rules.specs.Answer.{answer, outcome_of, reply_number, reply_with, done_answer, pieces_of, trace_answer, TraceOutcome}
 use Rattle.rules.specs.Facts.{Accepted}
 use Rattle.rules.proofs.Accepts.{accepted-number}
 use Rattle.rules.proofs.Laying.{length-rows}
-use Rattle.rules.proofs.Books.{nothing-changed}
+use Rattle.rules.proofs.Books.{nothing_changed}
 use Rattle.ledger.proofs.Laws.{sign-answers}
-use Rattle.history.specs.Tracing.{traceOutcomeOf}
+use Rattle.history.specs.Tracing.{trace_outcome_of}
 use Rattle.lots.proofs.TraceJoin.{Enough, trace-reply, trace-pieces}
 use Rattle.pages.specs.Writing.{Page, page, put}
-use Rattle.replies.specs.Writing.{replyLine}
-use Rattle.rules.specs.Transcript.{replyText}
+use Rattle.replies.specs.Writing.{reply_line}
+use Rattle.rules.specs.Transcript.{reply_text}
 use Rattle.replies.proofs.ReplyLaws.{reply-line, reply-text}
 use Rattle.steps.specs.declared.step.Stepped.{Stepped}
-use Rattle.steps.specs.Step.{Replied, HasTables, handed, answerText, repliedOf, replied}
+use Rattle.steps.specs.Step.{Replied, HasTables, handed, answer_text, replied_of, replied}
 
-abbrev valueCount : Reply → ℕ
-valueCount r = length r.values
+abbrev value_count : Reply → ℕ
+value_count r = length r.values
 
 -- ---- a call that hands out no pieces
-pub plain-replied : (a : Answered) (i o h : List ℕ) (r : Stepped) (out : List ℕ) (n : ℕ) (p : Page) → r.number ≡ (told a.answer).number → r.desk ≡ a.desk → page out r.at ≡ put p (replyLine n (told a.answer))
-    → repliedOf r i o h out ≡ replied n p (outcomeOf a i o h)
-plain-replied a i o h r out n p e f g = rw (e, f, g, reply-line n (outcomeOf a i o h) refl)
+pub plain-replied : (a : Answered) (i o h : List ℕ) (r : Stepped) (out : List ℕ) (n : ℕ) (p : Page) → r.number ≡ (told a.answer).number → r.desk ≡ a.desk → page out r.at ≡ put p (reply_line n (told a.answer))
+    → replied_of r i o h out ≡ replied n p (outcome_of a i o h)
+plain-replied a i o h r out n p e f g = rw (e, f, g, reply-line n (outcome_of a i o h) refl)
 
 -- a call that its own function has done: what the rules answer, in tables as long as they came
 pub record Done (b : Book) (c : Call) (i o h : List ℕ) (a : Answered) : Type 0 where
-  pub outcome : outcomeOf a i o h ≡ answer b c
+  pub outcome : outcome_of a i o h ≡ answer b c
   pub inbox : length i ≡ length b.inbox
   pub outbox : length o ≡ length b.outbox
   pub history : length h ≡ length b.history
 
-pub done-as : (b : Book) {c x : Call} {i o h i' o' h' : List ℕ} {a a' : Answered} → c ≡ x → i ≡ i' → o ≡ o' → h ≡ h' → a ≡ a' → Done b x i' o' h' a' → Done b c i o h a
-done-as b e p q r s d = rw (e, p, q, r, s) d
+pub done_as : (b : Book) {c x : Call} {i o h i' o' h' : List ℕ} {a a' : Answered} → c ≡ x → i ≡ i' → o ≡ o' → h ≡ h' → a ≡ a' → Done b x i' o' h' a' → Done b c i o h a
+done_as b e p q r s d = rw (e, p, q, r, s) d
 
 -- a sign changes nothing
-pub signed : (b : Book) (s : SignFields) → Accepted b (Call.Sign s) → outcomeOf (record { answer = Answer.Done; desk = b.desk }) b.inbox b.outbox b.history ≡ answer b (Call.Sign s)
+pub signed : (b : Book) (s : SignFields) → Accepted b (Call.Sign s) → outcome_of (record { answer = Answer.Done; desk = b.desk }) b.inbox b.outbox b.history ≡ answer b (Call.Sign s)
 unfolding told
 signed b s y = sign-answers b s Answer.Done (sym (ap plain (accepted-number b (Call.Sign s) y)))
 
 -- ---- a trace
 -- a done trace hands out as many rows as there are pieces
-handed-traced : (a : Answer) (k : ℕ) (ps t : List Lot) → told a ≡ replyWith k (told (Answer.Traced (length ps)))
-    → take (length (if-done k ps [])) t ≡ if-done k ps [] → handed a t ≡ if-done k ps []
+handed-traced : (a : Answer) (k : ℕ) (ps t : List Lot) → told a ≡ reply_with k (told (Answer.Traced (length ps)))
+    → take (length (if_done k ps [])) t ≡ if_done k ps [] → handed a t ≡ if_done k ps []
 unfolding handed told
-handed-traced Answer.Done zero ps t e f = absurd (let z : ◌≡◌ {A = ℕ} 0 1 = ap valueCount e in omega arith)
+handed-traced Answer.Done zero ps t e f = absurd (let z : ◌≡◌ {A = ℕ} 0 1 = ap value_count e in omega arith)
 handed-traced Answer.Done (suc k) ps t e f = refl
-handed-traced (Answer.Sent x) zero ps t e f = absurd (let z : ◌≡◌ {A = ℕ} 4 1 = ap valueCount e in omega arith)
+handed-traced (Answer.Sent x) zero ps t e f = absurd (let z : ◌≡◌ {A = ℕ} 4 1 = ap value_count e in omega arith)
 handed-traced (Answer.Sent x) (suc k) ps t e f = refl
 handed-traced (Answer.Traced m) zero ps t e f = let q : m ≡ length ps = ap (λ (r : Reply). get_or r.values 0 0) e in rw q f
-handed-traced (Answer.Traced m) (suc k) ps t e f = absurd (let z : ◌≡◌ {A = ℕ} 1 0 = ap valueCount e in omega arith)
-handed-traced (Answer.Refused why) zero ps t e f = absurd (let z : number_of why ≡ 0 = ap (λ (r : Reply). r.number) e in omega (arith, refusal-number why))
+handed-traced (Answer.Traced m) (suc k) ps t e f = absurd (let z : ◌≡◌ {A = ℕ} 1 0 = ap value_count e in omega arith)
+handed-traced (Answer.Refused why) zero ps t e f = absurd (let z : number_of why ≡ 0 = ap (λ (r : Reply). r.number) e in omega (arith, refusal_number why))
 handed-traced (Answer.Refused why) (suc k) ps t e f = refl
 
-abbrev replyFound : TraceOutcome → Reply
-replyFound o = o.reply
+abbrev reply_found : TraceOutcome → Reply
+reply_found o = o.reply
 
-abbrev piecesFound : TraceOutcome → List Lot
-piecesFound o = o.pieces
+abbrev pieces_found : TraceOutcome → List Lot
+pieces_found o = o.pieces
 
-module _ (b : Book) (work out : List Lot) (n : Nonce) (a : Answer) (work' out' : List Lot) (has : HasTables b.desk.counts.records work out) (e : traceOutcomeOf a work' out' ≡ traceAnswer b work out n) where
-  count : length (historyOf b) ≡ b.desk.counts.records
-  count = length-rows recordShape b.desk.counts.records b.history
+module _ (b : Book) (work out : List Lot) (n : Nonce) (a : Answer) (work' out' : List Lot) (has : HasTables b.desk.counts.records work out) (e : trace_outcome_of a work' out' ≡ trace_answer b work out n) where
+  count : length (history_of b) ≡ b.desk.counts.records
+  count = length-rows record_shape b.desk.counts.records b.history
 
   rows : Enough b (length work)
   rows = rw count has.rows
@@ -83,19 +83,19 @@ module _ (b : Book) (work out : List Lot) (n : Nonce) (a : Answer) (work' out' :
   places : Enough b (length out)
   places = rw count has.places
 
-  reply-is : told a ≡ (answer b (Call.Trace n)).reply
-  reply-is = ap replyFound e ∙ sym (trace-reply b work out n rows places)
+  reply_is : told a ≡ (answer b (Call.Trace n)).reply
+  reply_is = ap reply_found e ∙ sym (trace-reply b work out n rows places)
 
   rows_are : take (length (answer b (Call.Trace n)).pieces) out' ≡ (answer b (Call.Trace n)).pieces
-  rows_are = ap (λ (t : List Lot). take (length (answer b (Call.Trace n)).pieces) t) (ap piecesFound e) ∙ trace-pieces b work out n rows places
+  rows_are = ap (λ (t : List Lot). take (length (answer b (Call.Trace n)).pieces) t) (ap pieces_found e) ∙ trace-pieces b work out n rows places
 
   pieces_are : handed a out' ≡ (answer b (Call.Trace n)).pieces
-  unfolding answer pieces_of doneAnswer
-  pieces_are = handed-traced a (replyNumber b (Call.Trace n)) (pieces_of (view b) (Call.Trace n)) out' reply-is rows_are
+  unfolding answer pieces_of done_answer
+  pieces_are = handed-traced a (reply_number b (Call.Trace n)) (pieces_of (view b) (Call.Trace n)) out' reply_is rows_are
 
-  pub trace-replied : (k : ℕ) (p q : Page) (m : ℕ) → m ≡ (told a).number → q ≡ put p (answerText k a out')
+  pub trace-replied : (k : ℕ) (p q : Page) (m : ℕ) → m ≡ (told a).number → q ≡ put p (answer_text k a out')
       → ◌≡◌ {A = Replied} (record { book = b; number = m; text = q }) (replied k p (answer b (Call.Trace n)))
-  unfolding answerText
+  unfolding answer_text
   trace-replied k p q m c f =
-      rw (f, c, reply-is, pieces_are, ← reply-text k (answer b (Call.Trace n)))
-      (ap (λ (x : Book). record { book = x; number = (answer b (Call.Trace n)).reply.number; text = put p (replyText k (answer b (Call.Trace n))) }) (sym (nothing-changed b (Call.Trace n) (unfold changesNothing in refl))))
+      rw (f, c, reply_is, pieces_are, ← reply-text k (answer b (Call.Trace n)))
+      (ap (λ (x : Book). record { book = x; number = (answer b (Call.Trace n)).reply.number; text = put p (reply_text k (answer b (Call.Trace n))) }) (sym (nothing_changed b (Call.Trace n) (unfold changes_nothing in refl))))

@@ -31,26 +31,26 @@ use Rattle.steps.proofs.step.Stepped.TheLaws as Sp'
 abbrev pub Tallies : RattleType
 Tallies = T.the_row
 
-abbrev pub machT : Tally → Val
-machT t = LL.tuple_val T.the_type T'.the_laws ((T.the_type).to t)
+abbrev pub mach_t : Tally → Val
+mach_t t = LL.tuple_val T.the_type T'.the_laws ((T.the_type).to t)
 
 abbrev pub Desks : RattleType
 Desks = Dk.the_row
 
-abbrev pub machK : Desk → Val
-machK d = LL.tuple_val Dk.the_type Dk'.the_laws ((Dk.the_type).to d)
+abbrev pub mach_k : Desk → Val
+mach_k d = LL.tuple_val Dk.the_type Dk'.the_laws ((Dk.the_type).to d)
 
 abbrev pub Calls : RattleType
 Calls = Cl.the_row
 
-abbrev pub machC : Call → Val
-machC c = Le.sum-val Cl.the_type Cl'.the_laws ((Cl.the_type).to c)
+abbrev pub mach_c : Call → Val
+mach_c c = Le.sum-val Cl.the_type Cl'.the_laws ((Cl.the_type).to c)
 
 abbrev pub Results : RattleType
 Results = Sp.the_row
 
-abbrev pub machS : Stepped → Val
-machS s = LL.tuple_val Sp.the_type Sp'.the_laws ((Sp.the_type).to s)
+abbrev pub mach_s : Stepped → Val
+mach_s s = LL.tuple_val Sp.the_type Sp'.the_laws ((Sp.the_type).to s)
 
 -- ---- a `&mut`: its lifetime, the share of that lifetime's token, its ghost name, where it points, and what lies there
 pub record Loan (X : Type 0) : Type 0 where
@@ -61,8 +61,8 @@ pub record Loan (X : Type 0) : Type 0 where
   pub o : ℕ
   pub now : X
 
-abbrev pub loan-of : {X : Type 0} → Lft → Share → MutBor X → Loan X
-loan-of κ q r = record { κ = κ; q = q; γ = r.ghost_name; b = r.ref_ptr.0; o = r.ref_ptr.1; now = r.now }
+abbrev pub loan_of : {X : Type 0} → Lft → Share → MutBor X → Loan X
+loan_of κ q r = record { κ = κ; q = q; γ = r.ghost_name; b = r.ref_ptr.0; o = r.ref_ptr.1; now = r.now }
 
 abbrev pub lent : {X : Type 0} → Loan X → MutBor X
 lent s = record { ref_ptr = (s.b, s.o); ghost_name = s.γ; now = s.now }
@@ -85,8 +85,8 @@ module _ {M : Type 1} {𝓤 : Ura M} where
   abbrev pub token : {X : Type 0} → Loan X → Item 𝓤
   token s = ‵ (flft s.κ s.q)
 
-  abbrev pub last-slice : Width → Loan (List ℕ) → List ℕ → Item 𝓤
-  last-slice w s l = ‵ (finally (UInt w) s.γ l)
+  abbrev pub last_slice : Width → Loan (List ℕ) → List ℕ → Item 𝓤
+  last_slice w s l = ‵ (finally (UInt w) s.γ l)
 
   abbrev pub last-tally : Loan Tally → Tally → Item 𝓤
   last-tally s t = ‵ (fres s.γ (Tallies.coded.code t))

@@ -3,15 +3,15 @@ use Rattle.std.specs.Prelude.{ℕ, ◌≤◌, List, [], ◌∷◌, ◌++◌, len
 use Rattle.rules.specs.declared.rows.Lot.{Lot}
 use Rattle.rules.specs.declared.desk.Desk.{Desk}
 use Rattle.rules.specs.declared.answers.Answer.{Answer}
-use Rattle.rules.specs.Limits.{historyRows}
+use Rattle.rules.specs.Limits.{history_rows}
 use Rattle.rules.specs.Lists.{joined}
-use Rattle.rules.specs.Lines.{lineFeed, tabbed}
+use Rattle.rules.specs.Lines.{line_feed, tabbed}
 use Rattle.rules.specs.State.{Book}
 use Rattle.rules.specs.Replies.{told}
-use Rattle.rules.specs.Answer.{Outcome, bookOf}
-use Rattle.rules.specs.Transcript.{pieceValues, replyText}
+use Rattle.rules.specs.Answer.{Outcome, book_of}
+use Rattle.rules.specs.Transcript.{piece_values, reply_text}
 use Rattle.pages.specs.Writing.{Page, page, put}
-use Rattle.replies.specs.Writing.{replyStart}
+use Rattle.replies.specs.Writing.{reply_start}
 use Rattle.steps.specs.declared.step.Stepped.{Stepped}
 
 pub record Replied : Type 0 where
@@ -20,16 +20,16 @@ pub record Replied : Type 0 where
   pub text : Page
 
 -- what a step leaves
-abbrev pub repliedOf : Stepped → List ℕ → List ℕ → List ℕ → List ℕ → Replied
-repliedOf r inbox outbox history out = record { book = bookOf r.desk inbox outbox history; number = r.number; text = page out r.at }
+abbrev pub replied_of : Stepped → List ℕ → List ℕ → List ℕ → List ℕ → Replied
+replied_of r inbox outbox history out = record { book = book_of r.desk inbox outbox history; number = r.number; text = page out r.at }
 
 -- what an outcome is to leave, as line n of what is written
 abbrev pub replied : ℕ → Page → Outcome → Replied
-replied n p o = record { book = o.book; number = o.reply.number; text = put p (replyText n o) }
+replied n p o = record { book = o.book; number = o.reply.number; text = put p (reply_text n o) }
 
 -- what a step leaves that keeps the desk as it came
-abbrev pub steppedOf : Desk → Answer → ℕ → Stepped
-steppedOf d a at = record { number = (told a).number; desk = d; at = at }
+abbrev pub stepped_of : Desk → Answer → ℕ → Stepped
+stepped_of d a at = record { number = (told a).number; desk = d; at = at }
 
 -- the pieces that an answer hands out: of a done trace so many first rows of their table, of any other none
 unfoldable pub handed : Answer → List Lot → List Lot
@@ -39,17 +39,17 @@ handed (Answer.Traced n) ps = take n ps
 handed (Answer.Refused why) ps = []
 
 -- how many pieces an answer hands out
-unfoldable pub handedCount : Answer → ℕ
-handedCount Answer.Done = 0
-handedCount (Answer.Sent x) = 0
-handedCount (Answer.Traced n) = n
-handedCount (Answer.Refused why) = 0
+unfoldable pub handed_count : Answer → ℕ
+handed_count Answer.Done = 0
+handed_count (Answer.Sent x) = 0
+handed_count (Answer.Traced n) = n
+handed_count (Answer.Refused why) = 0
 
 -- an answer's line, with the pieces that lie in their table
-unfoldable pub answerText : ℕ → Answer → List Lot → List ℕ
-answerText n a ps = replyStart n (told a) ++ tabbed (joined pieceValues (handed a ps)) ++ (lineFeed ∷ [])
+unfoldable pub answer_text : ℕ → Answer → List Lot → List ℕ
+answer_text n a ps = reply_start n (told a) ++ tabbed (joined piece_values (handed a ps)) ++ (line_feed ∷ [])
 
 -- the two tables of a trace have a row for each of so many records, if a history can have as many
 pub record HasTables (records : ℕ) (work pieces : List Lot) : Type 0 where
-  pub rows : records ≤ historyRows → records ≤ length work
-  pub places : records ≤ historyRows → records ≤ length pieces
+  pub rows : records ≤ history_rows → records ≤ length work
+  pub places : records ≤ history_rows → records ≤ length pieces

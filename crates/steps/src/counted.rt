@@ -1,10 +1,10 @@
 // The step of a call that nothing refuses, which is handed the tally and raises it there.
 ghost use Rattle.std.specs.Prelude.{◌≤◌, ◌≡◌};
-ghost use Rattle.rules.specs.Answer.{bookOf, answer};
+ghost use Rattle.rules.specs.Answer.{book_of, answer};
 ghost use Rattle.rules.specs.Facts.{Accepted};
 ghost use Rattle.rules.specs.Transcript.{tallied};
 ghost use Rattle.pages.specs.Writing.{page};
-ghost use Rattle.steps.specs.Step.{repliedOf, replied};
+ghost use Rattle.steps.specs.Step.{replied_of, replied};
 
 use crate::step::{Stepped, step_done};
 use crate::tally::raised;
@@ -26,8 +26,8 @@ pub(crate) fn counted_step(
 ) -> Stepped
     requires done_bound { tally.old.done ≤ 100000 }
     requires other_bound { tally.old.other ≤ 100000 }
-    requires accepted { Accepted (bookOf d inbox.old outbox.old history.old) c }
-    ensures out_after { repliedOf result inbox.new outbox.new history.new out.new ≡ replied line (page out.old at) (answer (bookOf d inbox.old outbox.old history.old) c) }
+    requires accepted { Accepted (book_of d inbox.old outbox.old history.old) c }
+    ensures out_after { replied_of result inbox.new outbox.new history.new out.new ≡ replied line (page out.old at) (answer (book_of d inbox.old outbox.old history.old) c) }
     ensures tally_after { tally.new ≡ tallied tally.old result.number }
 {
     let s = step_done(d, inbox, outbox, history, out, at, line, c);
@@ -56,8 +56,8 @@ pub fn tallied_step(
 ) -> Tallied
     requires done_bound { tally.done ≤ 100000 }
     requires other_bound { tally.other ≤ 100000 }
-    requires accepted { Accepted (bookOf d inbox.old outbox.old history.old) c }
-    ensures out_after { repliedOf result.stepped inbox.new outbox.new history.new out.new ≡ replied line (page out.old at) (answer (bookOf d inbox.old outbox.old history.old) c) }
+    requires accepted { Accepted (book_of d inbox.old outbox.old history.old) c }
+    ensures out_after { replied_of result.stepped inbox.new outbox.new history.new out.new ≡ replied line (page out.old at) (answer (book_of d inbox.old outbox.old history.old) c) }
     ensures tally_value { result.tally ≡ tallied tally result.stepped.number }
 {
     let mut t = tally;

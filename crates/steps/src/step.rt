@@ -2,10 +2,10 @@
 ghost use Rattle.std.specs.Prelude.{◌≡◌};
 ghost use Rattle.rules.specs.Facts.{Accepted};
 ghost use Rattle.rules.specs.Replies.{told};
-ghost use Rattle.rules.specs.Answer.{bookOf, answer};
+ghost use Rattle.rules.specs.Answer.{book_of, answer};
 ghost use Rattle.pages.specs.Writing.{page, put};
-ghost use Rattle.replies.specs.Writing.{replyLine};
-ghost use Rattle.steps.specs.Step.{repliedOf, replied};
+ghost use Rattle.replies.specs.Writing.{reply_line};
+ghost use Rattle.steps.specs.Step.{replied_of, replied};
 
 use crate::traced::put_trace;
 use desk::answers::is_done;
@@ -35,7 +35,7 @@ pub fn step(
     line: u64,
     c: Call,
 ) -> Stepped
-    ensures { repliedOf result inbox.new outbox.new history.new out.new ≡ replied line (page out.old at) (answer (bookOf d inbox.old outbox.old history.old) c) }
+    ensures { replied_of result inbox.new outbox.new history.new out.new ≡ replied line (page out.old at) (answer (book_of d inbox.old outbox.old history.old) c) }
 {
     let counts = d.counts;
     let reply = call_reply(
@@ -71,8 +71,8 @@ pub(crate) fn step_done(
     line: u64,
     c: Call,
 ) -> Stepped
-    requires { Accepted (bookOf d inbox.old outbox.old history.old) c }
-    ensures { repliedOf result inbox.new outbox.new history.new out.new ≡ replied line (page out.old at) (answer (bookOf d inbox.old outbox.old history.old) c) }
+    requires { Accepted (book_of d inbox.old outbox.old history.old) c }
+    ensures { replied_of result inbox.new outbox.new history.new out.new ≡ replied line (page out.old at) (answer (book_of d inbox.old outbox.old history.old) c) }
 {
     let a = match c {
         Call::Deposit(x) => inbox::deposit_done(d, inbox, outbox, history, x),
@@ -95,7 +95,7 @@ pub(crate) fn step_done(
 fn put_answered(out: &mut [u8], at: usize, line: u64, a: Answered) -> Stepped
     ensures number_value { result.number ≡ (told a.answer).number }
     ensures desk_value { result.desk ≡ a.desk }
-    ensures at_after { page out.new result.at ≡ put (page out.old at) (replyLine line (told a.answer)) }
+    ensures at_after { page out.new result.at ≡ put (page out.old at) (reply_line line (told a.answer)) }
 {
     let answer = a.answer;
     let desk = a.desk;

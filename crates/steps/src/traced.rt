@@ -3,10 +3,10 @@ ghost use Rattle.std.specs.Prelude.{◌≡◌, ◌≤◌, take};
 ghost use Rattle.rules.specs.declared.calls.Call.{Call};
 ghost use Rattle.rules.specs.Lists.{joined};
 ghost use Rattle.rules.specs.Lines.{tabbed};
-ghost use Rattle.rules.specs.Answer.{bookOf, answer};
-ghost use Rattle.rules.specs.Transcript.{pieceValues};
+ghost use Rattle.rules.specs.Answer.{book_of, answer};
+ghost use Rattle.rules.specs.Transcript.{piece_values};
 ghost use Rattle.pages.specs.Writing.{page, put};
-ghost use Rattle.steps.specs.Step.{repliedOf, replied, handedCount, answerText, steppedOf, HasTables};
+ghost use Rattle.steps.specs.Step.{replied_of, replied, handed_count, answer_text, stepped_of, HasTables};
 
 use crate::step::Stepped;
 use pages::put_line_feed;
@@ -28,7 +28,7 @@ pub(crate) fn put_trace(
     line: u64,
     n: Nonce,
 ) -> Stepped
-    ensures { repliedOf result inbox.now outbox.now history.now out.new ≡ replied line (page out.old at) (answer (bookOf d inbox.now outbox.now history.now) (Call.Trace n)) }
+    ensures { replied_of result inbox.now outbox.now history.now out.new ≡ replied line (page out.old at) (answer (book_of d inbox.now outbox.now history.now) (Call.Trace n)) }
 {
     if d.counts.records <= 32 {
         put_short_trace(d, inbox, outbox, history, out, at, line, n)
@@ -49,7 +49,7 @@ fn put_short_trace(
     n: Nonce,
 ) -> Stepped
     requires { d.counts.records ≤ 32 }
-    ensures { repliedOf result inbox.now outbox.now history.now out.new ≡ replied line (page out.old at) (answer (bookOf d inbox.now outbox.now history.now) (Call.Trace n)) }
+    ensures { replied_of result inbox.now outbox.now history.now out.new ≡ replied line (page out.old at) (answer (book_of d inbox.now outbox.now history.now) (Call.Trace n)) }
 {
     let none = Lot {
         member: 0,
@@ -84,7 +84,7 @@ fn put_long_trace(
     line: u64,
     n: Nonce,
 ) -> Stepped
-    ensures { repliedOf result inbox.now outbox.now history.now out.new ≡ replied line (page out.old at) (answer (bookOf d inbox.now outbox.now history.now) (Call.Trace n)) }
+    ensures { replied_of result inbox.now outbox.now history.now out.new ≡ replied line (page out.old at) (answer (book_of d inbox.now outbox.now history.now) (Call.Trace n)) }
 {
     let none = Lot {
         member: 0,
@@ -122,7 +122,7 @@ fn put_traced(
     n: Nonce,
 ) -> Stepped
     requires { HasTables d.counts.records work.old pieces.old }
-    ensures { repliedOf result inbox.now outbox.now history.now out.new ≡ replied line (page out.old at) (answer (bookOf d inbox.now outbox.now history.now) (Call.Trace n)) }
+    ensures { replied_of result inbox.now outbox.now history.now out.new ≡ replied line (page out.old at) (answer (book_of d inbox.now outbox.now history.now) (Call.Trace n)) }
 {
     let answer = history::trace::trace(d, inbox, outbox, history, work, pieces, n);
     let p = put_outcome(out, at, line, answer, pieces);
@@ -131,7 +131,7 @@ fn put_traced(
 
 // What a step leaves that keeps the desk as it came.
 fn stepped(d: Desk, a: Answer, at: usize) -> Stepped
-    ensures { result ≡ steppedOf d a at }
+    ensures { result ≡ stepped_of d a at }
 {
     Stepped {
         number: reply_number(a),
@@ -142,7 +142,7 @@ fn stepped(d: Desk, a: Answer, at: usize) -> Stepped
 
 // An answer's whole line.
 fn put_outcome(out: &mut [u8], at: usize, line: u64, a: Answer, pieces: &[Lot]) -> usize
-    ensures { page out.new result ≡ put (page out.old at) (answerText line a pieces.now) }
+    ensures { page out.new result ≡ put (page out.old at) (answer_text line a pieces.now) }
 {
     let p = put_answer(out, at, line, a);
     let p = put_pieces(out, p, pieces, piece_count(a));
@@ -151,7 +151,7 @@ fn put_outcome(out: &mut [u8], at: usize, line: u64, a: Answer, pieces: &[Lot]) 
 
 // How many pieces the answer hands out.
 fn piece_count(a: Answer) -> usize
-    ensures { result ≡ handedCount a }
+    ensures { result ≡ handed_count a }
 {
     match a {
         Answer::Done => 0,
@@ -163,7 +163,7 @@ fn piece_count(a: Answer) -> usize
 
 // "Deposit number and amount for each piece": the first n rows of their table.
 fn put_pieces(out: &mut [u8], at: usize, pieces: &[Lot], n: usize) -> usize
-    ensures { page out.new result ≡ put (page out.old at) (tabbed (joined pieceValues (take n pieces.now))) }
+    ensures { page out.new result ≡ put (page out.old at) (tabbed (joined piece_values (take n pieces.now))) }
 {
     let mut p = at;
     let mut i: usize = 0;

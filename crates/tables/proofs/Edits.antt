@@ -12,9 +12,9 @@ use lib.Seq.{paste, paste-zero, paste-suc, length-paste, length_paste_head, take
 use borrow.Author.Tests.{le-leb, lt-leb, lt-ltb, le-ltb, leb-true, leb-false}
 use borrow.Rule.Slice.PartMut.{mid_of, put_mid}
 use Rattle.rules.specs.Lists.{same}
-use Rattle.rules.specs.Tables.{splice, withoutRow}
+use Rattle.rules.specs.Tables.{splice, without_row}
 use Rattle.rules.proofs.Laying.{more}
-use Rattle.tables.specs.Rows.{put_at, takenOut}
+use Rattle.tables.specs.Rows.{put_at, taken_out}
 
 -- ---- a row written
 -- a table with the first k numbers of a row written from a place on
@@ -25,9 +25,9 @@ pub copied_none : (t : List ℕ) (at : ℕ) (r : List ℕ) → t ≡ copied t at
 unfolding copied
 copied_none t at r = paste-zero t at r
 
-pub copied-one : (t : List ℕ) (at : ℕ) (r : List ℕ) (k : ℕ) → at + k < length t → k < length r → set (copied t at r k) (at + k) (get_or r k 0) ≡ copied t at r (k + 1)
+pub copied_one : (t : List ℕ) (at : ℕ) (r : List ℕ) (k : ℕ) → at + k < length t → k < length r → set (copied t at r k) (at + k) (get_or r k 0) ≡ copied t at r (k + 1)
 unfolding copied
-copied-one t at r k h f = rw (add-one k) (paste-suc t at r k 0 h f)
+copied_one t at r k h f = rw (add-one k) (paste-suc t at r k 0 h f)
 
 pub copied_all : (t : List ℕ) (at : ℕ) (r : List ℕ) (k : ℕ) → k ≡ length r → at + length r ≤ length t → copied t at r k ≡ put_at at r t
 unfolding copied put_at splice
@@ -66,9 +66,9 @@ module _ (t : List ℕ) (w k : ℕ) (fits : k + w < length t) where
       let e : 0 + k ≡ k = zero-add k in
       rw (read, add-one k) (subst (λ (i : ℕ). set (paste t 0 (drop w t) k) i (get_or (drop w t) k 0) ≡ paste t 0 (drop w t) (suc k)) e (paste-suc t 0 (drop w t) k 0 (omega arith) long))
 
-pub length-shifted : (t : List ℕ) (w k : ℕ) → k + w ≤ length t → length (shifted t w k) ≡ length t
+pub length_shifted : (t : List ℕ) (w k : ℕ) → k + w ≤ length t → length (shifted t w k) ≡ length t
 unfolding shifted
-length-shifted t w k h = length-paste t 0 (drop w t) k (omega arith) (rw (length-drop w t) (omega arith))
+length_shifted t w k h = length-paste t 0 (drop w t) k (omega arith) (rw (length-drop w t) (omega arith))
 
 -- the first of n rows moved over, and the last cleared
 pub closed-up : (t r : List ℕ) (w n k : ℕ) → 0 < n → n * w ≤ length t → k ≡ (n - 1) * w → length r ≡ w
@@ -91,64 +91,64 @@ cleared t n k e h = rw (e, length-replicate {A = ℕ} n 0, zero-add)
 
 -- ---- a row compared
 -- what is left to compare of a row and the numbers of a table, after k of them
-unfoldable pub sameFrom : ℕ → List ℕ → List ℕ → Bool
-sameFrom k r t = same (drop k r) (take (length r - k) (drop k t))
+unfoldable pub same_from : ℕ → List ℕ → List ℕ → Bool
+same_from k r t = same (drop k r) (take (length r - k) (drop k t))
 
-pub same_none : (r t : List ℕ) → same r (take (length r) t) ≡ sameFrom 0 r t
-unfolding sameFrom
+pub same_none : (r t : List ℕ) → same r (take (length r) t) ≡ same_from 0 r t
+unfolding same_from
 same_none r t = rw sub-zero
 
 next : (l : List ℕ) (k : ℕ) → k < length l → drop k l ≡ get_or l k 0 ∷ drop (k + 1) l
 next l k h = rw (add-one k) (drop-cons l k 0 h)
 
-pub same-one : (k : ℕ) (r t : List ℕ) → k < length r → length r ≤ length t → sameFrom k r t ≡ eqb (get_or r k 0) (get_or t k 0) && sameFrom (k + 1) r t
-unfolding sameFrom same
+pub same-one : (k : ℕ) (r t : List ℕ) → k < length r → length r ≤ length t → same_from k r t ≡ eqb (get_or r k 0) (get_or t k 0) && same_from (k + 1) r t
+unfolding same_from same
 same-one k r t h f =
     let e : length r - k ≡ suc (length r - (k + 1)) = omega arith in
     rw (e, next r k h, next t k (omega arith))
 
-pub same-all : (k : ℕ) (r t : List ℕ) → length r ≤ k → sameFrom k r t ≡ true
-unfolding sameFrom same
+pub same-all : (k : ℕ) (r t : List ℕ) → length r ≤ k → same_from k r t ≡ true
+unfolding same_from same
 same-all k r t h =
     let e : length r - k ≡ 0 = omega arith in
     rw (e, drop_of_length-le r h)
 
 -- lists that are the same are equally long
-same-long : (xs ys : List ℕ) → (length xs ≡ length ys → ⊥) → same xs ys ≡ false
+same_long : (xs ys : List ℕ) → (length xs ≡ length ys → ⊥) → same xs ys ≡ false
 unfolding same
-same-long [] [] h = absurd (h refl)
-same-long [] (y ∷ ys) h = refl
-same-long (x ∷ xs) [] h = refl
-same-long (x ∷ xs) (y ∷ ys) h = rw (same-long xs ys (λ e. h (ap suc e)), and-false)
+same_long [] [] h = absurd (h refl)
+same_long [] (y ∷ ys) h = refl
+same_long (x ∷ xs) [] h = refl
+same_long (x ∷ xs) (y ∷ ys) h = rw (same_long xs ys (λ e. h (ap suc e)), and-false)
 
 pub same-short : (r t : List ℕ) → length t < length r → same r (take (length r) t) ≡ false
-same-short r t h = same-long r (take (length r) t) (λ e. omega (arith, e ∙ length-take (length r) t))
+same-short r t h = same_long r (take (length r) t) (λ e. omega (arith, e ∙ length-take (length r) t))
 
 -- ---- row i found in the part from row i on
-pub taken-part : (t : List ℕ) (w i n : ℕ) → i < n → n * w ≤ length t
-    → take (i * w) t ++ withoutRow w 0 (n - i) (drop (i * w) t) ≡ takenOut w i n t
-unfolding takenOut withoutRow
-taken-part t w i n h f =
+pub taken_part : (t : List ℕ) (w i n : ℕ) → i < n → n * w ≤ length t
+    → take (i * w) t ++ without_row w 0 (n - i) (drop (i * w) t) ≡ taken_out w i n t
+unfolding taken_out without_row
+taken_part t w i n h f =
     let q : n ≡ i + (n - i) = omega arith in
     let p : n * w ≡ i * w + (n - i) * w = ap (λ (k : ℕ). k * w) q ∙ add-mul i (n - i) w in
     let s : suc i * w ≡ i * w + w = suc-mul i w in
     let o : n - i - suc 0 ≡ n - suc i = omega arith in
     rw (le-leb _ _ f, lt-ltb _ _ h, zero-mul w, one-mul w, o, drop-drop w (i * w) t, drop-drop ((n - i) * w) (i * w) t, ← s, ← p) (simp append_assoc)
 
-pub taken_none : (t : List ℕ) (w i n : ℕ) → n ≤ i → t ≡ takenOut w i n t
-unfolding takenOut
+pub taken_none : (t : List ℕ) (w i n : ℕ) → n ≤ i → t ≡ taken_out w i n t
+unfolding taken_out
 taken_none t w i n h = rw (le-ltb _ _ h, and-false)
 
-pub taken-outside : (t : List ℕ) (w i n : ℕ) → leb (n * w) (length t) ≡ false → t ≡ takenOut w i n t
-unfolding takenOut
+pub taken-outside : (t : List ℕ) (w i n : ℕ) → leb (n * w) (length t) ≡ false → t ≡ taken_out w i n t
+unfolding taken_out
 taken-outside t w i n h = rw h
 
 -- ---- whether n rows lie within a table
-pub no-width : (n w len : ℕ) → w ≡ 0 → leb (n * w) len ≡ true
-no-width n w len e = rw (e, mul-zero n) (le-leb 0 len zero-le)
+pub no_width : (n w len : ℕ) → w ≡ 0 → leb (n * w) len ≡ true
+no_width n w len e = rw (e, mul-zero n) (le-leb 0 len zero-le)
 
-pub fits-by-division : (n w len : ℕ) → 0 < w → leb n (len / w) ≡ leb (n * w) len
-fits-by-division n w len h = go (leb n (len / w)) refl
+pub fits_by_division : (n w len : ℕ) → 0 < w → leb n (len / w) ≡ leb (n * w) len
+fits_by_division n w len h = go (leb n (len / w)) refl
   where
     go : (p : Bool) → leb n (len / w) ≡ p → p ≡ leb (n * w) len
     go true e = sym (le-leb (n * w) len ((le-div_iff_mul-le h).0 (leb-true n (len / w) e)))
@@ -169,20 +169,20 @@ row_before i n w h =
     omega arith
 
 -- ---- a part that reaches to the end: the whole of what is left, and nothing after it
-pub whole-tail : (a : ℕ) (t : List ℕ) → mid_of a (length t - a) t ≡ drop a t
-whole-tail a t =
+pub whole_tail : (a : ℕ) (t : List ℕ) → mid_of a (length t - a) t ≡ drop a t
+whole_tail a t =
     let l : length (drop a t) ≡ length t - a = length-drop a t in
     take_all (length t - a) (drop a t) (omega arith)
 
-pub put-tail : (a : ℕ) (t r : List ℕ) → put_mid a (length t - a) t r ≡ take a t ++ r
-put-tail a t r =
+pub put_tail : (a : ℕ) (t r : List ℕ) → put_mid a (length t - a) t r ≡ take a t ++ r
+put_tail a t r =
     let l : length (drop a t) ≡ length t - a = length-drop a t in
     let e : drop (length t - a) (drop a t) ≡ [] = drop_of_length-le (drop a t) {i = length t - a} (omega arith) in
     rw (e, append-nil r)
 
 pub closed-up-row : (t u : List ℕ) (w n k : ℕ) → 0 < n → n * w ≤ length t → k ≡ (n - 1) * w → u ≡ shifted t w k
-    → take k u ++ splice 0 (replicate w 0) (drop k u) ≡ withoutRow w 0 n t
-unfolding withoutRow
+    → take k u ++ splice 0 (replicate w 0) (drop k u) ≡ without_row w 0 n t
+unfolding without_row
 closed-up-row t u w n k h f e s =
     let o : n - suc 0 ≡ n - 1 = omega arith in
     rw (s, zero-mul w, one-mul w, o) (closed-up t (replicate w 0) w n k h f e (length-replicate {A = ℕ} w 0))

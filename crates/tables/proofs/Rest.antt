@@ -25,9 +25,9 @@ module _ {A : Type 0} (shape : Shape A) where
   pub rest_all : (n : ℕ) (t : List ℕ) → rest n 0 t ≡ rows_of shape n t
   rest_all n t = rw (sub-zero, zero-mul)
 
-  pub rest-step : (n i : ℕ) (t : List ℕ) → i < n → rest n i t ≡ row_at shape i t ∷ rest n (i + 1) t
+  pub rest_step : (n i : ℕ) (t : List ℕ) → i < n → rest n i t ≡ row_at shape i t ∷ rest n (i + 1) t
   unfolding rows_of
-  rest-step n i t h =
+  rest_step n i t h =
       let e : n - i ≡ suc (n - (i + 1)) = omega arith in
       rw (e, drop-drop shape.width (i * shape.width) t, ← suc-mul i shape.width, ← add-one i)
 
@@ -39,31 +39,31 @@ module _ {A : Type 0} (shape : Shape A) where
 
   -- ---- a test that carries something from row to row
   module _ {S : Type 0} (test : S → A → Bool) (next : S → A → S) (n : ℕ) (s : S) (i : ℕ) (t : List ℕ) where
-    pub passes-fails : i < n → test s (row_at shape i t) ≡ false → passes test next s (rest n i t) ≡ false
+    pub passes_fails : i < n → test s (row_at shape i t) ≡ false → passes test next s (rest n i t) ≡ false
     unfolding passes
-    passes-fails h e = rw (rest-step n i t h, e)
+    passes_fails h e = rw (rest_step n i t h, e)
 
-    pub passes-goes : i < n → test s (row_at shape i t) ≡ true → passes test next s (rest n i t) ≡ passes test next (next s (row_at shape i t)) (rest n (i + 1) t)
+    pub passes_goes : i < n → test s (row_at shape i t) ≡ true → passes test next s (rest n i t) ≡ passes test next (next s (row_at shape i t)) (rest n (i + 1) t)
     unfolding passes
-    passes-goes h e = rw (rest-step n i t h, e)
+    passes_goes h e = rw (rest_step n i t h, e)
 
-    pub passes-end : n ≤ i → passes test next s (rest n i t) ≡ true
+    pub passes_end : n ≤ i → passes test next s (rest n i t) ≡ true
     unfolding passes
-    passes-end h = rw (rest_end n i t h)
+    passes_end h = rw (rest_end n i t h)
 
   -- ---- the first row that passes a test
   module _ (p : A → Bool) (n i : ℕ) (t : List ℕ) where
-    pub index-here : i < n → p (row_at shape i t) ≡ true → index_of p (rest n i t) ≡ 0
+    pub index_here : i < n → p (row_at shape i t) ≡ true → index_of p (rest n i t) ≡ 0
     unfolding index_of
-    index-here h e = rw (rest-step n i t h, e)
+    index_here h e = rw (rest_step n i t h, e)
 
-    pub index-later : i < n → p (row_at shape i t) ≡ false → index_of p (rest n i t) ≡ index_of p (rest n (i + 1) t) + 1
+    pub index_later : i < n → p (row_at shape i t) ≡ false → index_of p (rest n i t) ≡ index_of p (rest n (i + 1) t) + 1
     unfolding index_of
-    index-later h e = rw (rest-step n i t h, e) (sym (add-one (index_of p (rest n (i + 1) t))))
+    index_later h e = rw (rest_step n i t h, e) (sym (add-one (index_of p (rest n (i + 1) t))))
 
-    pub index-end : n ≤ i → index_of p (rest n i t) ≡ 0
+    pub index_end : n ≤ i → index_of p (rest n i t) ≡ 0
     unfolding index_of
-    index-end h = rw (rest_end n i t h)
+    index_end h = rw (rest_end n i t h)
 
 -- a number of row i is a number of the table
 pub cell : (w i k : ℕ) (t : List ℕ) → k < w → get_or (take w (drop (i * w) t)) k 0 ≡ get_or t (i * w + k) 0

@@ -5,8 +5,8 @@ pub mod rows;
 
 ghost use Rattle.std.specs.Prelude.{◌≡◌, ◌*◌, ◌≤◌, ◌<◌, leb, length, take, replicate};
 ghost use Rattle.rules.specs.Lists.{same};
-ghost use Rattle.rules.specs.Tables.{splice, withoutRow};
-ghost use Rattle.tables.specs.Rows.{put_at, takenOut, place_of};
+ghost use Rattle.rules.specs.Tables.{splice, without_row};
+ghost use Rattle.tables.specs.Rows.{put_at, taken_out, place_of};
 
 // Writes the row's numbers into the table from place `at` on. With `at` past the used rows this adds
 // a row; with `at` at a used row it changes that row.
@@ -29,7 +29,7 @@ pub fn put_row(t: &mut [u64], at: usize, row: &[u64])
 // Takes row i of the n used rows out. The rows before it are not written: what is lent on is the part
 // of the table from row i on.
 pub fn take_out(t: &mut [u64], width: usize, i: usize, n: usize)
-    ensures { t.new ≡ takenOut width i n t.old }
+    ensures { t.new ≡ taken_out width i n t.old }
 {
     if !lie_within(t.len(), width, n) {
         return;
@@ -74,7 +74,7 @@ fn lie_within(len: usize, width: usize, n: usize) -> bool
 fn close_up(t: &mut [u64], width: usize, rows: usize)
     requires rows_nonzero { 0 < rows }
     requires width_in_bounds { rows * width ≤ length t.old }
-    ensures { t.new ≡ withoutRow width 0 rows t.old }
+    ensures { t.new ≡ without_row width 0 rows t.old }
 {
     let last = (rows - 1) * width;
     let mut k: usize = 0;

@@ -1,7 +1,7 @@
 // The one writer of each kind of row: how a deposit, a payment or a record lies in its table is said here and in
 // the row's shape, and nowhere else.
 ghost use Rattle.std.specs.Prelude.{◌≡◌, ◌*◌};
-ghost use Rattle.rules.specs.Tables.{depositShape, paymentShape, recordShape};
+ghost use Rattle.rules.specs.Tables.{deposit_shape, payment_shape, record_shape};
 ghost use Rattle.tables.specs.Rows.{put_at};
 
 use crate::put_row;
@@ -10,7 +10,7 @@ use rules::rows::{Deposit, Payment, Record};
 
 // Writes the deposit into row n of the inbox, if the table has that row.
 pub fn put_deposit(inbox: &mut [u64], n: usize, x: Deposit)
-    ensures { inbox.new ≡ put_at (n * depositShape.width) (depositShape.flat x) inbox.old }
+    ensures { inbox.new ≡ put_at (n * deposit_shape.width) (deposit_shape.flat x) inbox.old }
 {
     if inbox.len() / DEPOSIT_WIDTH <= n {
         return;
@@ -22,7 +22,7 @@ pub fn put_deposit(inbox: &mut [u64], n: usize, x: Deposit)
 
 // Writes the payment into row n of the outbox, if the table has that row.
 pub fn put_payment(outbox: &mut [u64], n: usize, p: Payment)
-    ensures { outbox.new ≡ put_at (n * paymentShape.width) (paymentShape.flat p) outbox.old }
+    ensures { outbox.new ≡ put_at (n * payment_shape.width) (payment_shape.flat p) outbox.old }
 {
     if outbox.len() / PAYMENT_WIDTH <= n {
         return;
@@ -34,7 +34,7 @@ pub fn put_payment(outbox: &mut [u64], n: usize, p: Payment)
 
 // Writes the record into row n of the history, if the table has that row.
 pub fn put_record(history: &mut [u64], n: usize, r: Record)
-    ensures { history.new ≡ put_at (n * recordShape.width) (recordShape.flat r) history.old }
+    ensures { history.new ≡ put_at (n * record_shape.width) (record_shape.flat r) history.old }
 {
     if history.len() / RECORD_WIDTH <= n {
         return;

@@ -10,15 +10,15 @@ use lib.ListN.{length, get_or, set, take, drop, length-append, length-drop, leng
 use lib.Seq.{take-suc, take-add, length-take-le, take_all, take-length, take_at, take-append-le, drop-cons, append_snoc, set_at, set_split, set_out}
 use borrow.Author.Tests.{ltb-true, ltb-false}
 use Rattle.rules.specs.declared.rows.Lot.{Lot}
-use Rattle.rules.specs.Lots.{noLot, ofMember}
-use Rattle.rules.specs.Answer.{inFront}
+use Rattle.rules.specs.Lots.{no_lot, of_member}
+use Rattle.rules.specs.Answer.{in_front}
 use Rattle.takings.specs.Working.{appended}
 
 -- the first rows in front of their own table
-front-back : (n : ℕ) (t : List Lot) → take n t ++ drop (length (take n t)) t ≡ t
-front-back zero t = refl
-front-back (suc n) [] = refl
-front-back (suc n) (l ∷ t) = ap (λ (ls : List Lot). l ∷ ls) (front-back n t)
+front_back : (n : ℕ) (t : List Lot) → take n t ++ drop (length (take n t)) t ≡ t
+front_back zero t = refl
+front_back (suc n) [] = refl
+front_back (suc n) (l ∷ t) = ap (λ (ls : List Lot). l ∷ ls) (front_back n t)
 
 -- rows that reach the end do so however many were asked for
 reach : (n k : ℕ) (t : List Lot) → length t ≤ n + k → length t ≤ length (take n t) + k
@@ -30,7 +30,7 @@ module _ (used : ℕ) (t : List Lot) where
   -- none joins
   pub appended-none : appended used [] t ≡ t
   unfolding appended
-  appended-none = rw (append-nil (take used t), front-back used t) (take-length t)
+  appended-none = rw (append-nil (take used t), front_back used t) (take-length t)
 
   -- where no row is left, none joins any more
   pub appended-full : (ls ms : List Lot) → length t ≤ used + length ls → appended used (ls ++ ms) t ≡ appended used ls t
@@ -47,15 +47,15 @@ module _ (used : ℕ) (t : List Lot) where
     count = length-append (take used t) ls ∙ rw (length-take-le used t (omega (arith, fits)))
 
     -- all that have a row join
-    pub appended-all : appended used ls t ≡ inFront (take used t ++ ls) t
+    pub appended-all : appended used ls t ≡ in_front (take used t ++ ls) t
     unfolding appended
     appended-all =
-        take_all (length t) (inFront (take used t ++ ls) t)
+        take_all (length t) (in_front (take used t ++ ls) t)
         (rw (length-append (take used t ++ ls) (drop (length (take used t ++ ls)) t), length-drop (length (take used t ++ ls)) t) (omega (arith, count, fits)))
 
     -- the first rows are the used lots, and then these
-    pub appended-front : take (used + length ls) (appended used ls t) ≡ take used t ++ ls
-    appended-front = rw appended-all (take_at (take used t ++ ls) (drop (length (take used t ++ ls)) t) (used + length ls) count)
+    pub appended_front : take (used + length ls) (appended used ls t) ≡ take used t ++ ls
+    appended_front = rw appended-all (take_at (take used t ++ ls) (drop (length (take used t ++ ls)) t) (used + length ls) count)
 
   -- one lot is written into the row after the used ones
   pub append-set : (l : Lot) → appended used (l ∷ []) t ≡ set t used l
@@ -76,26 +76,26 @@ appended-more used ls t l h =
     let n : ℕ = used + length ls in
     let p : List Lot = take used t ++ ls in
     let here : length p ≡ n = count used t ls (omega arith) in
-    let before : appended used ls t ≡ p ++ get_or t n noLot ∷ drop (suc n) t = appended-all used t ls (omega arith) ∙ rw here (ap (λ (y : List Lot). p ++ y) (drop-cons t n noLot h)) in
+    let before : appended used ls t ≡ p ++ get_or t n no_lot ∷ drop (suc n) t = appended-all used t ls (omega arith) ∙ rw here (ap (λ (y : List Lot). p ++ y) (drop-cons t n no_lot h)) in
     let one : length (ls ++ (l ∷ [])) ≡ length ls + 1 = length-append ls (l ∷ []) in
     let next : length (take used t ++ (ls ++ (l ∷ []))) ≡ suc n = count used t (ls ++ (l ∷ [])) (omega (arith, one)) ∙ omega (arith, one) in
     let after : appended used (ls ++ (l ∷ [])) t ≡ p ++ l ∷ drop (suc n) t =
     appended-all used t (ls ++ (l ∷ [])) (omega (arith, one)) ∙ rw (next, ← append_assoc (take used t) ls (l ∷ [])) (append_snoc p l (drop (suc n) t)) in
-    append-set n (appended used ls t) l ∙ rw (before, after) (set_at p (get_or t n noLot) (drop (suc n) t) l n here)
+    append-set n (appended used ls t) l ∙ rw (before, after) (set_at p (get_or t n no_lot) (drop (suc n) t) l n here)
 
 -- ---- pieces that join with a new owner, one after the other
 module _ (m used : ℕ) (held work : List Lot) where
   abbrev joined : ℕ → List Lot
-  joined n = appended used (map (ofMember m) (take n held)) work
+  joined n = appended used (map (of_member m) (take n held)) work
 
   -- piece j joins those before it
-  pub joined-more : (j : ℕ) → j < length held → used + j < length work → (l : Lot) → l ≡ get_or held j noLot → appended (used + j) (ofMember m l ∷ []) (joined j) ≡ joined (j + 1)
-  joined-more j there room l e =
-      let ls : List Lot = map (ofMember m) (take j held) in
-      let n : length ls ≡ j = length-map (take j held) (ofMember m) ∙ length-take-le j held (omega arith) in
-      let one : map (ofMember m) (take (j + 1) held) ≡ ls ++ (ofMember m l ∷ []) = rw (add-one j, take-suc held j noLot there, ← e) (map-append (ofMember m) (take j held) (l ∷ [])) in
-      ap (λ (k : ℕ). appended (used + k) (ofMember m l ∷ []) (joined j)) (sym n)
-      ∙ appended-more used ls work (ofMember m l) (omega (arith, n))
+  pub joined_more : (j : ℕ) → j < length held → used + j < length work → (l : Lot) → l ≡ get_or held j no_lot → appended (used + j) (of_member m l ∷ []) (joined j) ≡ joined (j + 1)
+  joined_more j there room l e =
+      let ls : List Lot = map (of_member m) (take j held) in
+      let n : length ls ≡ j = length-map (take j held) (of_member m) ∙ length-take-le j held (omega arith) in
+      let one : map (of_member m) (take (j + 1) held) ≡ ls ++ (of_member m l ∷ []) = rw (add-one j, take-suc held j no_lot there, ← e) (map-append (of_member m) (take j held) (l ∷ [])) in
+      ap (λ (k : ℕ). appended (used + k) (of_member m l ∷ []) (joined j)) (sym n)
+      ∙ appended-more used ls work (of_member m l) (omega (arith, n))
       ∙ ap (λ (ps : List Lot). appended used ps work) (sym one)
 
   -- no piece is left, or no row
@@ -113,7 +113,7 @@ module _ (m used : ℕ) (held work : List Lot) where
           let out : length work ≤ used + j = ltb-false (used + j) (length work) g in
           let whole : n ≡ j + (n - j) = omega arith in
           let more : take n held ≡ take j held ++ take (n - j) (drop j held) = ap (λ (k : ℕ). take k held) whole ∙ take-add j (n - j) held in
-          let count-is : length (map (ofMember m) (take j held)) ≡ j = length-map (take j held) (ofMember m) ∙ length-take-le j held there in
-          rw (more, map-append (ofMember m) (take j held) (take (n - j) (drop j held)))
-          (sym (appended-full used work (map (ofMember m) (take j held)) (map (ofMember m) (take (n - j) (drop j held))) (omega (arith, out, count-is))))
+          let count-is : length (map (of_member m) (take j held)) ≡ j = length-map (take j held) (of_member m) ∙ length-take-le j held there in
+          rw (more, map-append (of_member m) (take j held) (take (n - j) (drop j held)))
+          (sym (appended-full used work (map (of_member m) (take j held)) (map (of_member m) (take (n - j) (drop j held))) (omega (arith, out, count-is))))
       go true true true e f g h = absurd h

@@ -11,14 +11,14 @@ use Rattle.takings.specs.contracts.work.take_from as take-from
 use Rattle.takings.specs.contracts.work.join as join
 
 -- ---- a lent table of lots
-pub lot-at-once : Coincide lot-at.ended (λ M 𝓤. lot-at.clauses 𝓤)
-lot-at-once w x g = value w
+pub lot_at_once : Coincide lot-at.ended (λ M 𝓤. lot-at.clauses 𝓤)
+lot_at_once w x g = value w
 
-pub append-once : Coincide append.ended (λ M 𝓤. append.clauses 𝓤)
-append-once w x g = first w
+pub append_once : Coincide append.ended (λ M 𝓤. append.clauses 𝓤)
+append_once w x g = first w
 
-pub clear-once : Coincide clear.ended (λ M 𝓤. clear.clauses 𝓤)
-clear-once w x g = first w
+pub clear_once : Coincide clear.ended (λ M 𝓤. clear.clauses 𝓤)
+clear_once w x g = first w
 
 -- ---- a taking, and pieces that join the end
 -- how many lots stay and how many were taken, and each of them: in the work table, and in the held one
@@ -28,8 +28,8 @@ OneTaking x =
     let r' = x.result' in
     (r.kept ≡ r'.kept) × (r.taken ≡ r'.taken) × (take r.kept x.left.0 ≡ take r'.kept x.left'.0) × (take r.taken x.left.1.1.0 ≡ take r'.taken x.left'.1.1.0)
 
-pub take-from-once : AnyTwo take-from.ended (λ M 𝓤. take-from.clauses 𝓤) OneTaking
-take-from-once w x g = both w (λ p q. (once _ p.kept q.kept, once _ p.taken q.taken, once _ p.stay q.stay, once _ p.wait q.wait))
+pub take_from_once : AnyTwo take-from.ended (λ M 𝓤. take-from.clauses 𝓤) OneTaking
+take_from_once w x g = both w (λ p q. (once _ p.kept q.kept, once _ p.taken q.taken, once _ p.stay q.stay, once _ p.wait q.wait))
 
-pub join-once : Coincide join.ended (λ M 𝓤. join.clauses 𝓤)
-join-once w x g = first w
+pub join_once : Coincide join.ended (λ M 𝓤. join.clauses 𝓤)
+join_once w x g = first w

@@ -19,7 +19,7 @@ use denote.Struct.Laws as LL
 use denote.Enum.Laws as Le
 use Rattle.rules.specs.declared.rows.Lot.{Lot}
 use Rattle.rules.specs.declared.rows.DepositNumber.{DepositNumber}
-use Rattle.rules.specs.Lots.{noLot}
+use Rattle.rules.specs.Lots.{no_lot}
 use Rattle.takings.specs.declared.work.Taking.{Taking}
 use Rattle.takings.specs.declared.work.Cut.{Cut}
 use Rattle.takings.specs.contracts.work.Taking as Tk
@@ -47,71 +47,71 @@ use Rattle.rules.proofs.rows.DepositNumber.TheLaws as Dn'
 abbrev pub R : RattleType
 R = T.the_row
 
-abbrev pub machOf : Lot → Val
-machOf l = LL.tuple_val T.the_type T'.the_laws ((T.the_type).to l)
+abbrev pub mach_of : Lot → Val
+mach_of l = LL.tuple_val T.the_type T'.the_laws ((T.the_type).to l)
 
 abbrev pub Numbers : RattleType
 Numbers = Dn.the_row
 
-abbrev pub machD : DepositNumber → Val
-machD n = LL.tuple_val Dn.the_type Dn'.the_laws ((Dn.the_type).to n)
+abbrev pub mach_d : DepositNumber → Val
+mach_d n = LL.tuple_val Dn.the_type Dn'.the_laws ((Dn.the_type).to n)
 
 -- a number, and a lot, of numbers that fit
-pub number_is : (n : DepositNumber) → n.0 < 2 ^ 64 → Is Numbers n (machD n ∷ [])
+pub number_is : (n : DepositNumber) → n.0 < 2 ^ 64 → Is Numbers n (mach_d n ∷ [])
 number_is n fits = LL.owes Dn.the_type Dn'.the_laws n ((refl, fits), tt)
 
-pub lot-is : (l : Lot) → l.member < 2 ^ 64 → l.asset < 2 ^ 64 → l.number.0 < 2 ^ 64 → l.amount < 2 ^ 64 → Is R l (machOf l ∷ [])
-lot-is l m a k x = LL.owes T.the_type T'.the_laws l ((refl, m), ((refl, a), (((vint w64 l.number.0 ∷ [], tt), (refl, ((refl, k), tt))), ((refl, x), tt))))
+pub lot_is : (l : Lot) → l.member < 2 ^ 64 → l.asset < 2 ^ 64 → l.number.0 < 2 ^ 64 → l.amount < 2 ^ 64 → Is R l (mach_of l ∷ [])
+lot_is l m a k x = LL.owes T.the_type T'.the_laws l ((refl, m), ((refl, a), (((vint w64 l.number.0 ∷ [], tt), (refl, ((refl, k), tt))), ((refl, x), tt))))
 
-pub no-number-is : Is Numbers (record { 0 = 0 }) (machD (record { 0 = 0 }) ∷ [])
-no-number-is = number_is (record { 0 = 0 }) (lit< tt)
+pub no_number_is : Is Numbers (record { 0 = 0 }) (mach_d (record { 0 = 0 }) ∷ [])
+no_number_is = number_is (record { 0 = 0 }) (lit< tt)
 
-pub zeros-is : Is R noLot (machOf noLot ∷ [])
-zeros-is = lot-is noLot (lit< tt) (lit< tt) (lit< tt) (lit< tt)
+pub zeros_is : Is R no_lot (mach_of no_lot ∷ [])
+zeros_is = lot_is no_lot (lit< tt) (lit< tt) (lit< tt) (lit< tt)
 
 -- ---- how far a taking is, and what becomes of a lot
 abbrev pub Taken : RattleType
 Taken = Tk.the_row
 
-abbrev pub machT : Taking → Val
-machT s = LL.tuple_val Tk.the_type Tk'.the_laws ((Tk.the_type).to s)
+abbrev pub mach_t : Taking → Val
+mach_t s = LL.tuple_val Tk.the_type Tk'.the_laws ((Tk.the_type).to s)
 
 abbrev pub Cuts : RattleType
 Cuts = Ct.the_row
 
-abbrev pub machC : Cut → Val
-machC c = LL.tuple_val Ct.the_type Ct'.the_laws ((Ct.the_type).to c)
+abbrev pub mach_c : Cut → Val
+mach_c c = LL.tuple_val Ct.the_type Ct'.the_laws ((Ct.the_type).to c)
 
 -- ---- a record
 abbrev pub Records : RattleType
 Records = Rc.the_row
 
-abbrev pub machR : Record → Val
-machR r = LL.tuple_val Rc.the_type Rc'.the_laws ((Rc.the_type).to r)
+abbrev pub mach_r : Record → Val
+mach_r r = LL.tuple_val Rc.the_type Rc'.the_laws ((Rc.the_type).to r)
 
 -- ---- a desk, a nonce, an answer
 abbrev pub Desks : RattleType
 Desks = Dk.the_row
 
-abbrev pub machK : Desk → Val
-machK d = LL.tuple_val Dk.the_type Dk'.the_laws ((Dk.the_type).to d)
+abbrev pub mach_k : Desk → Val
+mach_k d = LL.tuple_val Dk.the_type Dk'.the_laws ((Dk.the_type).to d)
 
 abbrev pub Nonces : RattleType
 Nonces = Nn.the_row
 
-abbrev pub machN : Nonce → Val
-machN n = LL.tuple_val Nn.the_type Nn'.the_laws ((Nn.the_type).to n)
+abbrev pub mach_n : Nonce → Val
+mach_n n = LL.tuple_val Nn.the_type Nn'.the_laws ((Nn.the_type).to n)
 
 abbrev pub Answers : RattleType
 Answers = An.the_row
 
-abbrev pub machA : Answer → Val
-machA a = Le.sum-val An.the_type An'.the_laws ((An.the_type).to a)
+abbrev pub mach_a : Answer → Val
+mach_a a = Le.sum-val An.the_type An'.the_laws ((An.the_type).to a)
 
 -- ---- a slice
 module _ {X : Type 0} (b o : ℕ) where
-  abbrev pub at-list : GName → List X → MutBor (List X)
-  at-list δ l = record { ref_ptr = (b, o); ghost_name = δ; now = l }
+  abbrev pub at_list : GName → List X → MutBor (List X)
+  at_list δ l = record { ref_ptr = (b, o); ghost_name = δ; now = l }
 
 abbrev pub sv : ℕ → ℕ → ℕ → Val
 sv b o n = slice_val (b, o) n

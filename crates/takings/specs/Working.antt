@@ -1,30 +1,30 @@
 -- What the loops over a table of lots rest on and come to.
 use Rattle.std.specs.Prelude.{ℕ, ◌+◌, ◌-◌, ◌≤◌, ◌≡◌, Bool, true, false, not, cond, List, ◌++◌, leb, eqb, length, take, drop}
 use Rattle.rules.specs.declared.rows.Lot.{Lot}
-use Rattle.rules.specs.Lots.{inLine, ofAmount, taken, left}
-use Rattle.rules.specs.Answer.{inFront}
+use Rattle.rules.specs.Lots.{in_line, of_amount, taken, left}
+use Rattle.rules.specs.Answer.{in_front}
 use Rattle.takings.specs.declared.work.Taking.{Taking}
 use Rattle.takings.specs.declared.work.Cut.{Cut}
 
 -- ---- taking
-abbrev pub takingOf : ℕ → ℕ → ℕ → Taking
-takingOf due kept taken = record { due = due; kept = kept; taken = taken }
+abbrev pub taking_of : ℕ → ℕ → ℕ → Taking
+taking_of due kept taken = record { due = due; kept = kept; taken = taken }
 
-abbrev pub cutInto : Lot → Lot → Taking → Bool → Bool → Cut
-cutInto piece rest next takes moves = record { piece = piece; rest = rest; next = next; takes = takes; moves = moves }
+abbrev pub cut_into : Lot → Lot → Taking → Bool → Bool → Cut
+cut_into piece rest next takes moves = record { piece = piece; rest = rest; next = next; takes = takes; moves = moves }
 
 -- what becomes of the lot in row i: it stays, and moves unless that is its row, or is taken whole, or is split
-abbrev pub cutNone : ℕ → Lot → Taking → Cut
-cutNone i l s = cutInto l l (takingOf s.due (s.kept + 1) s.taken) false (not (eqb s.kept i))
+abbrev pub cut_none : ℕ → Lot → Taking → Cut
+cut_none i l s = cut_into l l (taking_of s.due (s.kept + 1) s.taken) false (not (eqb s.kept i))
 
-abbrev pub cutWhole : Lot → Taking → Cut
-cutWhole l s = cutInto l l (takingOf (s.due - l.amount) s.kept (s.taken + 1)) true false
+abbrev pub cut_whole : Lot → Taking → Cut
+cut_whole l s = cut_into l l (taking_of (s.due - l.amount) s.kept (s.taken + 1)) true false
 
-abbrev pub cutInTwo : Lot → Taking → Cut
-cutInTwo l s = cutInto (ofAmount s.due l) (ofAmount (l.amount - s.due) l) (takingOf 0 (s.kept + 1) (s.taken + 1)) true true
+abbrev pub cut_in_two : Lot → Taking → Cut
+cut_in_two l s = cut_into (of_amount s.due l) (of_amount (l.amount - s.due) l) (taking_of 0 (s.kept + 1) (s.taken + 1)) true true
 
 unfoldable pub cut_of : ℕ → ℕ → ℕ → Lot → Taking → Cut
-cut_of m a i l s = cond (not (inLine m a l)) (cutNone i l s) (cond (leb l.amount s.due) (cutWhole l s) (cutInTwo l s))
+cut_of m a i l s = cond (not (in_line m a l)) (cut_none i l s) (cond (leb l.amount s.due) (cut_whole l s) (cut_in_two l s))
 
 -- so many rows can be taken from: there are as many, and the held table has one for each
 pub record CanTake (used : ℕ) (work held : List Lot) : Type 0 where
@@ -51,4 +51,4 @@ pub record ClosesUp (to from used : ℕ) (work after : List Lot) : Type 0 where
 
 -- ---- lots that join the end: after the used rows, in this order. Every other row keeps what it had, and a lot for which there is no row is not written
 unfoldable pub appended : ℕ → List Lot → List Lot → List Lot
-appended used ls t = take (length t) (inFront (take used t ++ ls) t)
+appended used ls t = take (length t) (in_front (take used t ++ ls) t)

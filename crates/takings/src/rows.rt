@@ -1,14 +1,14 @@
 // A lent table of lots, a lot a row: one lot read, one that joins the end, all cleared. They are total: past the
 // end a lot reads as zeros and none is written, so that no caller owes an index.
 ghost use Rattle.std.specs.Prelude.{◌≡◌, [], ◌∷◌, length, get_or, replicate};
-ghost use Rattle.rules.specs.Lots.{noLot};
+ghost use Rattle.rules.specs.Lots.{no_lot};
 ghost use Rattle.takings.specs.Working.{appended};
 
 use rules::rows::{DepositNumber, Lot};
 
 // The lot in row i; past the end none, so zeros.
 pub fn lot_at(lots: &[Lot], i: usize) -> Lot
-    ensures { result ≡ get_or lots.now i noLot }
+    ensures { result ≡ get_or lots.now i no_lot }
 {
     if i < lots.len() {
         lots[i]
@@ -33,7 +33,7 @@ pub fn append(lots: &mut [Lot], used: usize, l: Lot)
 
 // Every row of the table becomes zeros, one after the other.
 pub fn clear(lots: &mut [Lot])
-    ensures { lots.new ≡ replicate (length lots.old) noLot }
+    ensures { lots.new ≡ replicate (length lots.old) no_lot }
 {
     let none = Lot {
         member: 0,

@@ -1,8 +1,8 @@
 // A taking from a line, and pieces that join the end. The loops only read a row, ask what becomes of
 // it, and append.
 ghost use Rattle.std.specs.Prelude.{◌≡◌, cond, [], ◌∷◌, map, ◌≤◌, ◌<◌, take};
-ghost use Rattle.rules.specs.Lots.{ofMember};
-ghost use Rattle.takings.specs.Working.{cut_of, cutWhole, cutInTwo, CanTake, TakesFrom, CanClose, ClosesUp, appended};
+ghost use Rattle.rules.specs.Lots.{of_member};
+ghost use Rattle.takings.specs.Working.{cut_of, cut_whole, cut_in_two, CanTake, TakesFrom, CanClose, ClosesUp, appended};
 
 use crate::rows::{append, lot_at};
 use rules::rows::Lot;
@@ -59,7 +59,7 @@ pub(crate) fn cut_lot(l: Lot, i: usize, member: u64, asset: u64, s: Taking) -> C
 fn cut_whole(l: Lot, s: Taking) -> Cut
     requires taken_bound { s.taken < 1024 }
     requires amount_le_due { l.amount ≤ s.due }
-    ensures { result ≡ cutWhole l s }
+    ensures { result ≡ cut_whole l s }
 {
     let next = Taking {
         due: s.due - l.amount,
@@ -80,7 +80,7 @@ fn cut_in_two(l: Lot, s: Taking) -> Cut
     requires kept_bound { s.kept < 1024 }
     requires taken_bound { s.taken < 1024 }
     requires due_le_amount { s.due ≤ l.amount }
-    ensures { result ≡ cutInTwo l s }
+    ensures { result ≡ cut_in_two l s }
 {
     let next = Taking {
         due: 0,
@@ -163,7 +163,7 @@ pub(crate) fn close_up(work: &mut [Lot], to: usize, from: usize, used: usize)
 // "the pieces join the receiver's line in the order taken": as many as are asked for and are there, each with its
 // new owner, while the table has rows.
 pub fn join(work: &mut [Lot], used: usize, held: &[Lot], count: usize, member: u64)
-    ensures { work.new ≡ appended used (map (ofMember member) (take count held.now)) work.old }
+    ensures { work.new ≡ appended used (map (of_member member) (take count held.now)) work.old }
 {
     let mut end = used;
     let mut j: usize = 0;

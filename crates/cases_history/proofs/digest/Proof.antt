@@ -40,8 +40,8 @@ use Rattle.rules.specs.contracts.rows.Lot as T
 use Rattle.rules.proofs.rows.Lot.TheLaws as T'
 use Rattle.takings.proofs.Loop.{tests, below, next_fits, less, less_wf}
 use Rattle.takings.proofs.Locals.{local, part}
-use Rattle.takings.proofs.Values.{R, at-list, sv, word, refimm, places, cell, spare}
-use Rattle.takings.proofs.LotCalls.{LotRead, reads-lot}
+use Rattle.takings.proofs.Values.{R, at_list, sv, word, refimm, places, cell, spare}
+use Rattle.takings.proofs.LotCalls.{LotRead, reads_lot}
 use Rattle.cases_history.proofs.Calls.{Mixed, mixes}
 use Rattle.takings.proofs.rows.lot_at.Symbol as lot-at-def
 use Rattle.takings.proofs.rows.lot_at.Symbol.{name as #lot-at}
@@ -92,7 +92,7 @@ module _ {M : Type 1} {𝓤 : Ura M} (𝓛 : Logic 𝓤) (mem : Memory → SProp
   nlot = length lots
 
   abbrev a : Arg
-  a = (at-list blot olot γlot lots, tt)
+  a = (at_list blot olot γlot lots, tt)
 
   abbrev at : List Val × Unit {0}
   at = (sv blot olot nlot ∷ [], tt)
@@ -100,9 +100,9 @@ module _ {M : Type 1} {𝓤 : Ura M} (𝓛 : Logic 𝓤) (mem : Memory → SProp
   abbrev Post : Val → SProp 𝓤
   Post = (walk_of 𝓛 f.ended stayed (f.clauses 𝓛 mem run)).post (((κlot, tt), (qlot, tt), tt, a, at), tt)
 
-  exits : (r : ℕ) → r < 2 ^ 64 → r < 1000003 → ent 𝓤 (⋆ 𝓛 (‵ ((ShrSlice (named 0) κlot R).own_val (at-list blot olot γlot lots) (sv blot olot nlot ∷ [])) ∷ ‵ (flft κlot qlot) ∷ [])) (Post (vint w64 r))
+  exits : (r : ℕ) → r < 2 ^ 64 → r < 1000003 → ent 𝓤 (⋆ 𝓛 (‵ ((ShrSlice (named 0) κlot R).own_val (at_list blot olot γlot lots) (sv blot olot nlot ∷ [])) ∷ ‵ (flft κlot qlot) ∷ [])) (Post (vint w64 r))
   exits r isr e =
-      qed 𝓛 (‵ ((ShrSlice (named 0) κlot R).own_val (at-list blot olot γlot lots) (sv blot olot nlot ∷ [])) ∷ ‵ (flft κlot qlot) ∷ []) ∵
+      qed 𝓛 (‵ ((ShrSlice (named 0) κlot R).own_val (at_list blot olot γlot lots) (sv blot olot nlot ∷ [])) ∷ ‵ (flft κlot qlot) ∷ []) ∵
       suffices ! _ (ends_at 𝓛 f.ended stayed (f.clauses 𝓛 mem run) (((κlot, tt), (qlot, tt), tt, a, at), tt) (vint w64 r) r (tt, tt) (tt, tt)) $ says ! e $
       nothing ! $ move ! (2 ∷ 0 ∷ []) $ join ! $ frame ! $ nothing ! $ move ! (1 ∷ 0 ∷ []) $ fjoin ! $ frame ! $ owned ! u64 (Is u64) (uint_Makes 𝓛 w64) r _ (refl, isr) $ done !
 
@@ -110,7 +110,7 @@ module _ {M : Type 1} {𝓤 : Ura M} (𝓛 : Logic 𝓤) (mem : Memory → SProp
     -- the whole context at the loop's head
     abbrev I : ℕ → ℕ → ℕ → ℕ → ℕ → ℕ → ℕ → St nlot → List (Item 𝓤)
     I l₀ l₁ l₂ l₃ l₄ l₅ l₆ t =
-        ‵ ((ShrSlice (named 0) κlot R).own_val (at-list blot olot γlot lots) (sv blot olot nlot ∷ [])) ∷ ‵ (flft κlot qlot) ∷ (spare ty_bool l₆ (spare word l₅ (spare T'.mir l₄ (cell word l₃ (vint w64 t.k) (cell word l₂ (vint w64 t.sum) (cell (slice_ty (refimm 0)) l₁ (sv blot olot nlot) (spare word l₀ [])))))))
+        ‵ ((ShrSlice (named 0) κlot R).own_val (at_list blot olot γlot lots) (sv blot olot nlot ∷ [])) ∷ ‵ (flft κlot qlot) ∷ (spare ty_bool l₆ (spare word l₅ (spare T'.mir l₄ (cell word l₃ (vint w64 t.k) (cell word l₂ (vint w64 t.sum) (cell (slice_ty (refimm 0)) l₁ (sv blot olot nlot) (spare word l₀ [])))))))
 
     walk : Room R nlot → ent 𝓤 (on_entry 𝓛 f.signature (κlot, tt) (qlot, tt) a at) (WpFn 𝓤 H 𝓣.C 𝓣.Λ code.function (sv blot olot nlot ∷ []) Post)
     unfolding after_turn
@@ -127,7 +127,7 @@ module _ {M : Type 1} {𝓤 : Ura M} (𝓛 : Logic 𝓤) (mem : Memory → SProp
         assigns ! (bin ! (local ! 8 refl) (local ! 4 refl) tt) (from ! (stop !)) (init ! 2 refl (tt, tt)) $ tests ! (local ! 2 refl) (λ yes.
         let more : t.k < nlot = ltb→lt t.k nlot yes in
         -- the row is read
-        reads-lot ! blot olot nlot lots t.k mem run 𝓣 known-get (below roomlot.0 more) (and_then ! (local ! 12 refl) (and_then ! (local ! 8 refl) (no_more !))) (λ l e isl.
+        reads_lot ! blot olot nlot lots t.k mem run 𝓣 known-get (below roomlot.0 more) (and_then ! (local ! 12 refl) (and_then ! (local ! 8 refl) (no_more !))) (λ l e isl.
         land ! (from ! (stop !)) (init ! 6 refl ((LL.lawful T.the_type T'.the_laws 𝓛).typed l _ isl).0) $
         -- and mixed in
         mixes ! t.sum l mem run 𝓣 known-mixed (small t.low) isl t.low (and_then ! (local ! 11 refl) (and_then ! (local ! 7 refl) (no_more !))) (λ s low' iss.

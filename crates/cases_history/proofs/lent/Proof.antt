@@ -50,12 +50,12 @@ use Rattle.rules.proofs.rows.Nonce.TheLaws as Nn'
 use Rattle.rules.specs.contracts.desk.Desk as Dk
 use Rattle.rules.proofs.desk.Desk.TheLaws as Dk'
 use Rattle.takings.proofs.Locals.{local}
-use Rattle.takings.proofs.Values.{R, machOf, number_is, lot-is, Desks, machK, Nonces, machN, at-list, sv}
+use Rattle.takings.proofs.Values.{R, mach_of, number_is, lot_is, Desks, mach_k, Nonces, mach_n, at_list, sv}
 use Rattle.cases_history.specs.declared.Seen.{Seen}
 use Rattle.cases_history.specs.contracts.Seen as Sn
 use Rattle.cases_history.proofs.Seen.TheLaws as Sn'
 use Rattle.history.proofs.Table.{table_is}
-use Rattle.cases_history.proofs.Calls.{Seens, machS, Traced, sees}
+use Rattle.cases_history.proofs.Calls.{Seens, mach_s, Traced, sees}
 use Rattle.cases_history.proofs.traced.Symbol as traced-def
 use Rattle.cases_history.proofs.traced.Symbol.{name as #traced}
 use Rattle.cases_history.proofs.traced.Met as traced-thm
@@ -81,8 +81,8 @@ prefix-room l = (omega arith, omega arith)
 abbrev all_of : ℕ → Lot
 all_of k = record { member = k; asset = k; number = record { 0 = k }; amount = k }
 
-all-is : (k : ℕ) → k < 2 ^ 64 → Is R (all_of k) (machOf (all_of k) ∷ [])
-all-is k fits = lot-is (all_of k) fits fits fits fits
+all-is : (k : ℕ) → k < 2 ^ 64 → Is R (all_of k) (mach_of (all_of k) ∷ [])
+all-is k fits = lot_is (all_of k) fits fits fits fits
 
 module _ {M : Type 1} {𝓤 : Ura M} (𝓛 : Logic 𝓤) (mem : Memory → SProp 𝓤) (run : Routine → Fun 𝓤) (κinb : Lft) (κoutb : Lft) (κhist : Lft) (qinb : Share) (qoutb : Share) (qhist : Share) (dk : Desk) (binb oinb : ℕ) (γinb : GName) (inbs : List ℕ) (boutb ooutb : ℕ) (γoutb : GName) (outbs : List ℕ) (bhist ohist : ℕ) (γhist : GName) (hists : List ℕ) (wn : ℕ) (pn : ℕ) (non : Nonce) where
   open 𝓛 use {H}
@@ -97,18 +97,18 @@ module _ {M : Type 1} {𝓤 : Ura M} (𝓛 : Logic 𝓤) (mem : Memory → SProp
   nhist = length hists
 
   abbrev a : Arg
-  a = (dk, (at-list binb oinb γinb inbs, (at-list boutb ooutb γoutb outbs, (at-list bhist ohist γhist hists, (wn, (pn, (non, tt)))))))
+  a = (dk, (at_list binb oinb γinb inbs, (at_list boutb ooutb γoutb outbs, (at_list bhist ohist γhist hists, (wn, (pn, (non, tt)))))))
 
   abbrev at : List Val × (List Val × (List Val × (List Val × (List Val × (List Val × (List Val × Unit {0}))))))
-  at = (machK dk ∷ [], (sv binb oinb ninb ∷ [], (sv boutb ooutb noutb ∷ [], (sv bhist ohist nhist ∷ [], (vint w64 wn ∷ [], (vint w64 pn ∷ [], (machN non ∷ [], tt)))))))
+  at = (mach_k dk ∷ [], (sv binb oinb ninb ∷ [], (sv boutb ooutb noutb ∷ [], (sv bhist ohist nhist ∷ [], (vint w64 wn ∷ [], (vint w64 pn ∷ [], (mach_n non ∷ [], tt)))))))
 
   abbrev Post : Val → SProp 𝓤
   Post = (walk_of 𝓛 f.ended stayed (f.clauses 𝓛 mem run)).post (((κinb, (κoutb, (κhist, tt))), (qinb, (qoutb, (qhist, tt))), tt, a, at), tt)
 
-  exits : Is Desks dk (machK dk ∷ []) → wn < 2 ^ 64 → pn < 2 ^ 64 → Is Nonces non (machN non ∷ []) → (r : Seen) → Is Seens r (machS r ∷ []) → (r.work < 1000003) × (r.pieces < 1000003) → ent 𝓤 (⋆ 𝓛 (‵ ((ShrSlice (named 0) κinb u64).own_val (at-list binb oinb γinb inbs) (sv binb oinb ninb ∷ [])) ∷ ‵ (flft κinb qinb) ∷ ‵ ((ShrSlice (named 0) κoutb u64).own_val (at-list boutb ooutb γoutb outbs) (sv boutb ooutb noutb ∷ [])) ∷ ‵ (flft κoutb qoutb) ∷ ‵ ((ShrSlice (named 0) κhist u64).own_val (at-list bhist ohist γhist hists) (sv bhist ohist nhist ∷ [])) ∷ ‵ (flft κhist qhist) ∷ [])) (Post (machS r))
+  exits : Is Desks dk (mach_k dk ∷ []) → wn < 2 ^ 64 → pn < 2 ^ 64 → Is Nonces non (mach_n non ∷ []) → (r : Seen) → Is Seens r (mach_s r ∷ []) → (r.work < 1000003) × (r.pieces < 1000003) → ent 𝓤 (⋆ 𝓛 (‵ ((ShrSlice (named 0) κinb u64).own_val (at_list binb oinb γinb inbs) (sv binb oinb ninb ∷ [])) ∷ ‵ (flft κinb qinb) ∷ ‵ ((ShrSlice (named 0) κoutb u64).own_val (at_list boutb ooutb γoutb outbs) (sv boutb ooutb noutb ∷ [])) ∷ ‵ (flft κoutb qoutb) ∷ ‵ ((ShrSlice (named 0) κhist u64).own_val (at_list bhist ohist γhist hists) (sv bhist ohist nhist ∷ [])) ∷ ‵ (flft κhist qhist) ∷ [])) (Post (mach_s r))
   exits isdk iswn ispn isnon r isr e =
-      qed 𝓛 (‵ ((ShrSlice (named 0) κinb u64).own_val (at-list binb oinb γinb inbs) (sv binb oinb ninb ∷ [])) ∷ ‵ (flft κinb qinb) ∷ ‵ ((ShrSlice (named 0) κoutb u64).own_val (at-list boutb ooutb γoutb outbs) (sv boutb ooutb noutb ∷ [])) ∷ ‵ (flft κoutb qoutb) ∷ ‵ ((ShrSlice (named 0) κhist u64).own_val (at-list bhist ohist γhist hists) (sv bhist ohist nhist ∷ [])) ∷ ‵ (flft κhist qhist) ∷ []) ∵
-      suffices ! _ (ends_at 𝓛 f.ended stayed (f.clauses 𝓛 mem run) (((κinb, (κoutb, (κhist, tt))), (qinb, (qoutb, (qhist, tt))), tt, a, at), tt) (machS r) r (tt, (tt, (tt, (tt, (tt, (tt, (tt, tt))))))) (tt, (tt, (tt, (tt, (tt, (tt, (tt, tt)))))))) $ says ! e $
+      qed 𝓛 (‵ ((ShrSlice (named 0) κinb u64).own_val (at_list binb oinb γinb inbs) (sv binb oinb ninb ∷ [])) ∷ ‵ (flft κinb qinb) ∷ ‵ ((ShrSlice (named 0) κoutb u64).own_val (at_list boutb ooutb γoutb outbs) (sv boutb ooutb noutb ∷ [])) ∷ ‵ (flft κoutb qoutb) ∷ ‵ ((ShrSlice (named 0) κhist u64).own_val (at_list bhist ohist γhist hists) (sv bhist ohist nhist ∷ [])) ∷ ‵ (flft κhist qhist) ∷ []) ∵
+      suffices ! _ (ends_at 𝓛 f.ended stayed (f.clauses 𝓛 mem run) (((κinb, (κoutb, (κhist, tt))), (qinb, (qoutb, (qhist, tt))), tt, a, at), tt) (mach_s r) r (tt, (tt, (tt, (tt, (tt, (tt, (tt, tt))))))) (tt, (tt, (tt, (tt, (tt, (tt, (tt, tt)))))))) $ says ! e $
       nothing ! $ move ! (6 ∷ 0 ∷ []) $ join ! $ move ! (4 ∷ 0 ∷ []) $ join ! $ move ! (2 ∷ 0 ∷ []) $ join ! $ frame ! $ nothing ! $
       owned ! Nonces (Is Nonces) ((LL.makes Nn.the_type Nn'.the_plain) 𝓛) non _ isnon $ fjoin ! $ owned ! usize (Is usize) (uint_Makes 𝓛 w64) pn _ (refl, ispn) $ fjoin ! $
       owned ! usize (Is usize) (uint_Makes 𝓛 w64) wn _ (refl, iswn) $ fjoin ! $ move ! (3 ∷ 0 ∷ []) $ fjoin ! $ move ! (2 ∷ 0 ∷ []) $ fjoin ! $ move ! (1 ∷ 0 ∷ []) $ fjoin ! $
@@ -116,12 +116,12 @@ module _ {M : Type 1} {𝓤 : Ura M} (𝓛 : Logic 𝓤) (mem : Memory → SProp
       owned ! Seens (Is Seens) ((LL.makes Sn.the_type Sn'.the_plain) 𝓛) r _ isr $ done !
 
   module _ (𝓣 : Tables 𝓤 H) (known-traced : Triple 𝓤 (𝓣.C #traced) (Traced 𝓛 mem run)) where
-    walk : Is Desks dk (machK dk ∷ []) → Room u64 ninb → Room u64 noutb → Room u64 nhist → wn < 2 ^ 64 → pn < 2 ^ 64 → Is Nonces non (machN non ∷ []) → (wn ≤ 1024) × (pn ≤ 1024) → ent 𝓤 (on_entry 𝓛 f.signature (κinb, (κoutb, (κhist, tt))) (qinb, (qoutb, (qhist, tt))) a at) (WpFn 𝓤 H 𝓣.C 𝓣.Λ code.function (machK dk ∷ sv binb oinb ninb ∷ sv boutb ooutb noutb ∷ sv bhist ohist nhist ∷ vint w64 wn ∷ vint w64 pn ∷ machN non ∷ []) Post)
+    walk : Is Desks dk (mach_k dk ∷ []) → Room u64 ninb → Room u64 noutb → Room u64 nhist → wn < 2 ^ 64 → pn < 2 ^ 64 → Is Nonces non (mach_n non ∷ []) → (wn ≤ 1024) × (pn ≤ 1024) → ent 𝓤 (on_entry 𝓛 f.signature (κinb, (κoutb, (κhist, tt))) (qinb, (qoutb, (qhist, tt))) a at) (WpFn 𝓤 H 𝓣.C 𝓣.Λ code.function (mach_k dk ∷ sv binb oinb ninb ∷ sv boutb ooutb noutb ∷ sv bhist ohist nhist ∷ vint w64 wn ∷ vint w64 pn ∷ mach_n non ∷ []) Post)
     walk isdk roominb roomoutb roomhist iswn ispn isnon req =
         qed 𝓛 ((‵ (flft κinb qinb) ⊛ (‵ (flft κoutb qoutb) ⊛ (‵ (flft κhist qhist) ⊛ ‵ ftrue))) ∷ ‵ (owns (Desks ∷ ShrSlice (named 0) κinb u64 ∷ ShrSlice (named 1) κoutb u64 ∷ ShrSlice (named 2) κhist u64 ∷ usize ∷ usize ∷ Nonces ∷ []) a at) ∷ []) ∵
         split ! $ move ! (1 ∷ []) $ split ! $ move ! (1 ∷ []) $ split ! $ move ! (4 ∷ []) $ fsplit ! $ move ! (1 ∷ []) $ fsplit ! $ move ! (1 ∷ []) $ fsplit ! $ move ! (1 ∷ []) $ fsplit ! $
         keep ! (3 ∷ 8 ∷ 2 ∷ 7 ∷ 0 ∷ 5 ∷ []) $
-        enter ! 𝓣.C 𝓣.Λ code.function (machK dk ∷ sv binb oinb ninb ∷ sv boutb ooutb noutb ∷ sv bhist ohist nhist ∷ vint w64 wn ∷ vint w64 pn ∷ machN non ∷ []) _ $ alloc1 ! (λ l₀.
+        enter ! 𝓣.C 𝓣.Λ code.function (mach_k dk ∷ sv binb oinb ninb ∷ sv boutb ooutb noutb ∷ sv bhist ohist nhist ∷ vint w64 wn ∷ vint w64 pn ∷ mach_n non ∷ []) _ $ alloc1 ! (λ l₀.
         alloc1 ! (λ l₁. alloc1 ! (λ l₂. alloc1 ! (λ l₃. alloc1 ! (λ l₄. alloc1 ! (λ l₅. alloc1 ! (λ l₆. alloc1 ! (λ l₇. alloc1 ! (λ l₈. alloc1 ! (λ l₉. alloc1 ! (λ l₁₀. alloc1 ! (λ l₁₁.
         alloc1 ! (λ l₁₂. alloc1 ! (λ l₁₃. alloc1 ! (λ l₁₄. alloc1 ! (λ l₁₅. alloc0 ! $ move ! (32 ∷ 33 ∷ 34 ∷ 35 ∷ 36 ∷ 37 ∷ []) $ params1 ! $
         pass1 ! (init ! 34 refl ((LL.lawful Dk.the_type Dk'.the_laws 𝓛).typed dk _ isdk).0) $ pass1 ! (init ! 32 refl (tt, (tt, (record { fits = roominb.0 }, tt)))) $
@@ -132,10 +132,10 @@ module _ {M : Type 1} {𝓤 : Ura M} (𝓛 : Logic 𝓤) (mem : Memory → SProp
         -- two tables are made
         assigns ! (agg ! (and_then ! (lit ! tt) (no_more !))) (from ! (stop !)) (init ! 16 refl ((LL.lawful Dn.the_type Dn'.the_laws 𝓛).typed (record { 0 = 7 }) _ (number_is (record { 0 = 7 }) (lit< tt))).0) $
         assigns ! (agg ! (and_then ! (lit ! tt) (and_then ! (lit ! tt) (and_then ! (local ! 16 refl) (and_then ! (lit ! tt) (no_more !)))))) (from ! (stop !)) (init ! 14 refl ((LL.lawful T.the_type T'.the_laws 𝓛).typed (all_of 7) _ (all-is 7 (lit< tt))).0) $
-        assigns ! (rep ! size (local ! 14 refl)) (from ! (stop !)) (init ! 20 refl ((Array-Lawful 𝓛 R (LL.lawful T.the_type T'.the_laws 𝓛) size).typed (replicate size (all_of 7)) _ (table_is R (all_of 7) (machOf (all_of 7)) (all-is 7 (lit< tt)) size)).0) $
+        assigns ! (rep ! size (local ! 14 refl)) (from ! (stop !)) (init ! 20 refl ((Array-Lawful 𝓛 R (LL.lawful T.the_type T'.the_laws 𝓛) size).typed (replicate size (all_of 7)) _ (table_is R (all_of 7) (mach_of (all_of 7)) (all-is 7 (lit< tt)) size)).0) $
         assigns ! (agg ! (and_then ! (lit ! tt) (no_more !))) (from ! (stop !)) (store ! 16 refl ((LL.lawful Dn.the_type Dn'.the_laws 𝓛).typed (record { 0 = 9 }) _ (number_is (record { 0 = 9 }) (lit< tt))).0) $
         assigns ! (agg ! (and_then ! (lit ! tt) (and_then ! (lit ! tt) (and_then ! (local ! 16 refl) (and_then ! (lit ! tt) (no_more !)))))) (from ! (stop !)) (store ! 14 refl ((LL.lawful T.the_type T'.the_laws 𝓛).typed (all_of 9) _ (all-is 9 (lit< tt))).0) $
-        assigns ! (rep ! size (local ! 14 refl)) (from ! (stop !)) (init ! 18 refl ((Array-Lawful 𝓛 R (LL.lawful T.the_type T'.the_laws 𝓛) size).typed (replicate size (all_of 9)) _ (table_is R (all_of 9) (machOf (all_of 9)) (all-is 9 (lit< tt)) size)).0) $
+        assigns ! (rep ! size (local ! 14 refl)) (from ! (stop !)) (init ! 18 refl ((Array-Lawful 𝓛 R (LL.lawful T.the_type T'.the_laws 𝓛) size).typed (replicate size (all_of 9)) _ (table_is R (all_of 9) (mach_of (all_of 9)) (all-is 9 (lit< tt)) size)).0) $
         assigns ! (addr ! (from ! (stop !))) (from ! (stop !)) (init ! 12 refl (tt, tt)) $
         assigns ! (agg ! (and_then ! (local ! 12 refl) (and_then ! (local ! 26 refl) (no_more !)))) (from ! (stop !)) (init ! 10 refl (tt, (tt, (record { fits = iswn }, tt)))) $
         assigns ! (addr ! (from ! (stop !))) (from ! (stop !)) (init ! 8 refl (tt, tt)) $

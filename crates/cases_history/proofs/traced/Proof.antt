@@ -46,12 +46,12 @@ use Rattle.rules.proofs.desk.Desk.TheLaws as Dk'
 use Rattle.rules.specs.contracts.answers.Answer as An
 use Rattle.rules.proofs.answers.Answer.TheLaws as An'
 use Rattle.takings.proofs.Locals.{local, part, slice_at}
-use Rattle.takings.proofs.Values.{R, Desks, machK, Nonces, machN, Answers, machA, at-list, sv}
+use Rattle.takings.proofs.Values.{R, Desks, mach_k, Nonces, mach_n, Answers, mach_a, at_list, sv}
 use Rattle.history.proofs.AskCalls.{Trace, asks-trace}
 use Rattle.cases_history.specs.declared.Seen.{Seen}
 use Rattle.cases_history.specs.contracts.Seen as Sn
 use Rattle.cases_history.proofs.Seen.TheLaws as Sn'
-use Rattle.cases_history.proofs.Calls.{Seens, machS, Digest, digests}
+use Rattle.cases_history.proofs.Calls.{Seens, mach_s, Digest, digests}
 use Rattle.history.proofs.trace.trace.Symbol as trace-def
 use Rattle.history.proofs.trace.trace.Symbol.{name as #trace}
 use Rattle.history.proofs.trace.trace.Met as trace-thm
@@ -69,7 +69,7 @@ Arg = Desk × (Bor (List ℕ) × (Bor (List ℕ) × (Bor (List ℕ) × (Bor (Lis
 abbrev stayed : Stays (f.ended).signature.params (f.ended).kept
 stayed = (stay_none (λ _. Desks) yes, (stay_none_slice (0 ∷ []) tt (plain (λ _. u64)) yes, (stay_none_slice (1 ∷ []) tt (plain (λ _. u64)) yes, (stay_none_slice (2 ∷ []) tt (plain (λ _. u64)) yes, (stay_slice (3 ∷ []) tt (plain (λ _. T.the_row)), (stay_slice (4 ∷ []) tt (plain (λ _. T.the_row)), (stay_none (λ _. Nonces) yes, tt)))))))
 
-seen-is : (a : Answer) (w p : ℕ) → Is Answers a (machA a ∷ []) → w < 2 ^ 64 → p < 2 ^ 64 → Is Seens (record { answer = a; work = w; pieces = p }) (machS (record { answer = a; work = w; pieces = p }) ∷ [])
+seen-is : (a : Answer) (w p : ℕ) → Is Answers a (mach_a a ∷ []) → w < 2 ^ 64 → p < 2 ^ 64 → Is Seens (record { answer = a; work = w; pieces = p }) (mach_s (record { answer = a; work = w; pieces = p }) ∷ [])
 seen-is a w p is fw fp = LL.owes Sn.the_type Sn'.the_laws (record { answer = a; work = w; pieces = p }) (is, ((refl, fw), ((refl, fp), tt)))
 
 module _ {M : Type 1} {𝓤 : Ura M} (𝓛 : Logic 𝓤) (mem : Memory → SProp 𝓤) (run : Routine → Fun 𝓤) (κinb : Lft) (κoutb : Lft) (κhist : Lft) (κwork : Lft) (κout : Lft) (qinb : Share) (qoutb : Share) (qhist : Share) (qwork : Share) (qout : Share) (dk : Desk) (binb oinb : ℕ) (γinb : GName) (inbs : List ℕ) (boutb ooutb : ℕ) (γoutb : GName) (outbs : List ℕ) (bhist ohist : ℕ) (γhist : GName) (hists : List ℕ) (bwork owork : ℕ) (γwork : GName) (works : List Lot) (bout oout : ℕ) (γout : GName) (outs : List Lot) (non : Nonce) where
@@ -91,30 +91,30 @@ module _ {M : Type 1} {𝓤 : Ura M} (𝓛 : Logic 𝓤) (mem : Memory → SProp
   nout = length outs
 
   abbrev a : Arg
-  a = (dk, (at-list binb oinb γinb inbs, (at-list boutb ooutb γoutb outbs, (at-list bhist ohist γhist hists, (at-list bwork owork γwork works, (at-list bout oout γout outs, (non, tt)))))))
+  a = (dk, (at_list binb oinb γinb inbs, (at_list boutb ooutb γoutb outbs, (at_list bhist ohist γhist hists, (at_list bwork owork γwork works, (at_list bout oout γout outs, (non, tt)))))))
 
   abbrev at : List Val × (List Val × (List Val × (List Val × (List Val × (List Val × (List Val × Unit {0}))))))
-  at = (machK dk ∷ [], (sv binb oinb ninb ∷ [], (sv boutb ooutb noutb ∷ [], (sv bhist ohist nhist ∷ [], (sv bwork owork nwork ∷ [], (sv bout oout nout ∷ [], (machN non ∷ [], tt)))))))
+  at = (mach_k dk ∷ [], (sv binb oinb ninb ∷ [], (sv boutb ooutb noutb ∷ [], (sv bhist ohist nhist ∷ [], (sv bwork owork nwork ∷ [], (sv bout oout nout ∷ [], (mach_n non ∷ [], tt)))))))
 
   abbrev Post : Val → SProp 𝓤
   Post = (walk_of 𝓛 f.ended stayed (f.clauses 𝓛 mem run)).post (((κinb, (κoutb, (κhist, (κwork, (κout, tt))))), (qinb, (qoutb, (qhist, (qwork, (qout, tt))))), tt, a, at), tt)
 
-  exits : Is Desks dk (machK dk ∷ []) → Is Nonces non (machN non ∷ []) → (r : Seen) → Is Seens r (machS r ∷ []) → (workw : List Lot) → length workw ≡ nwork → (outw : List Lot) → length outw ≡ nout → (r.work < 1000003) × (r.pieces < 1000003) → ent 𝓤 (⋆ 𝓛 (‵ ((ShrSlice (named 0) κinb u64).own_val (at-list binb oinb γinb inbs) (sv binb oinb ninb ∷ [])) ∷ ‵ (flft κinb qinb) ∷ ‵ ((ShrSlice (named 0) κoutb u64).own_val (at-list boutb ooutb γoutb outbs) (sv boutb ooutb noutb ∷ [])) ∷ ‵ (flft κoutb qoutb) ∷ ‵ ((ShrSlice (named 0) κhist u64).own_val (at-list bhist ohist γhist hists) (sv bhist ohist nhist ∷ [])) ∷ ‵ (flft κhist qhist) ∷ ‵ ((MutSlice (named 0) κwork R).own_val (at-list bwork owork γwork workw) (sv bwork owork nwork ∷ [])) ∷ ‵ (flft κwork qwork) ∷ ‵ ((MutSlice (named 0) κout R).own_val (at-list bout oout γout outw) (sv bout oout nout ∷ [])) ∷ ‵ (flft κout qout) ∷ [])) (Post (machS r))
+  exits : Is Desks dk (mach_k dk ∷ []) → Is Nonces non (mach_n non ∷ []) → (r : Seen) → Is Seens r (mach_s r ∷ []) → (workw : List Lot) → length workw ≡ nwork → (outw : List Lot) → length outw ≡ nout → (r.work < 1000003) × (r.pieces < 1000003) → ent 𝓤 (⋆ 𝓛 (‵ ((ShrSlice (named 0) κinb u64).own_val (at_list binb oinb γinb inbs) (sv binb oinb ninb ∷ [])) ∷ ‵ (flft κinb qinb) ∷ ‵ ((ShrSlice (named 0) κoutb u64).own_val (at_list boutb ooutb γoutb outbs) (sv boutb ooutb noutb ∷ [])) ∷ ‵ (flft κoutb qoutb) ∷ ‵ ((ShrSlice (named 0) κhist u64).own_val (at_list bhist ohist γhist hists) (sv bhist ohist nhist ∷ [])) ∷ ‵ (flft κhist qhist) ∷ ‵ ((MutSlice (named 0) κwork R).own_val (at_list bwork owork γwork workw) (sv bwork owork nwork ∷ [])) ∷ ‵ (flft κwork qwork) ∷ ‵ ((MutSlice (named 0) κout R).own_val (at_list bout oout γout outw) (sv bout oout nout ∷ [])) ∷ ‵ (flft κout qout) ∷ [])) (Post (mach_s r))
   exits isdk isnon r isr workw lenwork outw lenout e =
-      qed 𝓛 (‵ ((ShrSlice (named 0) κinb u64).own_val (at-list binb oinb γinb inbs) (sv binb oinb ninb ∷ [])) ∷ ‵ (flft κinb qinb) ∷ ‵ ((ShrSlice (named 0) κoutb u64).own_val (at-list boutb ooutb γoutb outbs) (sv boutb ooutb noutb ∷ [])) ∷ ‵ (flft κoutb qoutb) ∷ ‵ ((ShrSlice (named 0) κhist u64).own_val (at-list bhist ohist γhist hists) (sv bhist ohist nhist ∷ [])) ∷ ‵ (flft κhist qhist) ∷ ‵ ((MutSlice (named 0) κwork R).own_val (at-list bwork owork γwork workw) (sv bwork owork nwork ∷ [])) ∷ ‵ (flft κwork qwork) ∷ ‵ ((MutSlice (named 0) κout R).own_val (at-list bout oout γout outw) (sv bout oout nout ∷ [])) ∷ ‵ (flft κout qout) ∷ []) ∵
-      suffices ! _ (ends_at 𝓛 f.ended stayed (f.clauses 𝓛 mem run) (((κinb, (κoutb, (κhist, (κwork, (κout, tt))))), (qinb, (qoutb, (qhist, (qwork, (qout, tt))))), tt, a, at), tt) (machS r) r (tt, (tt, (tt, (tt, (workw, (outw, (tt, tt))))))) (tt, (tt, (tt, (tt, (lenwork, (lenout, (tt, tt)))))))) $ says ! e $
+      qed 𝓛 (‵ ((ShrSlice (named 0) κinb u64).own_val (at_list binb oinb γinb inbs) (sv binb oinb ninb ∷ [])) ∷ ‵ (flft κinb qinb) ∷ ‵ ((ShrSlice (named 0) κoutb u64).own_val (at_list boutb ooutb γoutb outbs) (sv boutb ooutb noutb ∷ [])) ∷ ‵ (flft κoutb qoutb) ∷ ‵ ((ShrSlice (named 0) κhist u64).own_val (at_list bhist ohist γhist hists) (sv bhist ohist nhist ∷ [])) ∷ ‵ (flft κhist qhist) ∷ ‵ ((MutSlice (named 0) κwork R).own_val (at_list bwork owork γwork workw) (sv bwork owork nwork ∷ [])) ∷ ‵ (flft κwork qwork) ∷ ‵ ((MutSlice (named 0) κout R).own_val (at_list bout oout γout outw) (sv bout oout nout ∷ [])) ∷ ‵ (flft κout qout) ∷ []) ∵
+      suffices ! _ (ends_at 𝓛 f.ended stayed (f.clauses 𝓛 mem run) (((κinb, (κoutb, (κhist, (κwork, (κout, tt))))), (qinb, (qoutb, (qhist, (qwork, (qout, tt))))), tt, a, at), tt) (mach_s r) r (tt, (tt, (tt, (tt, (workw, (outw, (tt, tt))))))) (tt, (tt, (tt, (tt, (lenwork, (lenout, (tt, tt)))))))) $ says ! e $
       nothing ! $ move ! (10 ∷ 0 ∷ []) $ join ! $ move ! (8 ∷ 0 ∷ []) $ join ! $ move ! (6 ∷ 0 ∷ []) $ join ! $ move ! (4 ∷ 0 ∷ []) $ join ! $ move ! (2 ∷ 0 ∷ []) $ join ! $ frame ! $
       nothing ! $ owned ! Nonces (Is Nonces) ((LL.makes Nn.the_type Nn'.the_plain) 𝓛) non _ isnon $ fjoin ! $ move ! (5 ∷ 0 ∷ []) $ fjoin ! $ move ! (4 ∷ 0 ∷ []) $ fjoin ! $
       move ! (3 ∷ 0 ∷ []) $ fjoin ! $ move ! (2 ∷ 0 ∷ []) $ fjoin ! $ move ! (1 ∷ 0 ∷ []) $ fjoin ! $ owned ! Desks (Is Desks) ((LL.makes Dk.the_type Dk'.the_plain) 𝓛) dk _ isdk $
       fjoin ! $ frame ! $ owned ! Seens (Is Seens) ((LL.makes Sn.the_type Sn'.the_plain) 𝓛) r _ isr $ done !
 
   module _ (𝓣 : Tables 𝓤 H) (known-trace : Triple 𝓤 (𝓣.C #trace) (Trace 𝓛 mem run)) (known-digest : Triple 𝓤 (𝓣.C #digest) (Digest 𝓛 mem run)) where
-    walk : Is Desks dk (machK dk ∷ []) → Room u64 ninb → Room u64 noutb → Room u64 nhist → Room R nwork → Room R nout → Is Nonces non (machN non ∷ []) → ent 𝓤 (on_entry 𝓛 f.signature (κinb, (κoutb, (κhist, (κwork, (κout, tt))))) (qinb, (qoutb, (qhist, (qwork, (qout, tt))))) a at) (WpFn 𝓤 H 𝓣.C 𝓣.Λ code.function (machK dk ∷ sv binb oinb ninb ∷ sv boutb ooutb noutb ∷ sv bhist ohist nhist ∷ sv bwork owork nwork ∷ sv bout oout nout ∷ machN non ∷ []) Post)
+    walk : Is Desks dk (mach_k dk ∷ []) → Room u64 ninb → Room u64 noutb → Room u64 nhist → Room R nwork → Room R nout → Is Nonces non (mach_n non ∷ []) → ent 𝓤 (on_entry 𝓛 f.signature (κinb, (κoutb, (κhist, (κwork, (κout, tt))))) (qinb, (qoutb, (qhist, (qwork, (qout, tt))))) a at) (WpFn 𝓤 H 𝓣.C 𝓣.Λ code.function (mach_k dk ∷ sv binb oinb ninb ∷ sv boutb ooutb noutb ∷ sv bhist ohist nhist ∷ sv bwork owork nwork ∷ sv bout oout nout ∷ mach_n non ∷ []) Post)
     walk isdk roominb roomoutb roomhist roomwork roomout isnon =
         qed 𝓛 ((‵ (flft κinb qinb) ⊛ (‵ (flft κoutb qoutb) ⊛ (‵ (flft κhist qhist) ⊛ (‵ (flft κwork qwork) ⊛ (‵ (flft κout qout) ⊛ ‵ ftrue))))) ∷ ‵ (owns (Desks ∷ ShrSlice (named 0) κinb u64 ∷ ShrSlice (named 1) κoutb u64 ∷ ShrSlice (named 2) κhist u64 ∷ MutSlice (named 3) κwork R ∷ MutSlice (named 4) κout R ∷ Nonces ∷ []) a at) ∷ []) ∵
         split ! $ move ! (1 ∷ []) $ split ! $ move ! (1 ∷ []) $ split ! $ move ! (1 ∷ []) $ split ! $ move ! (1 ∷ []) $ split ! $ move ! (6 ∷ []) $ fsplit ! $ move ! (1 ∷ []) $ fsplit ! $
         move ! (1 ∷ []) $ fsplit ! $ move ! (1 ∷ []) $ fsplit ! $ move ! (1 ∷ []) $ fsplit ! $ move ! (1 ∷ []) $ fsplit ! $ keep ! (5 ∷ 12 ∷ 4 ∷ 11 ∷ 3 ∷ 10 ∷ 2 ∷ 9 ∷ 0 ∷ 7 ∷ []) $
-        enter ! 𝓣.C 𝓣.Λ code.function (machK dk ∷ sv binb oinb ninb ∷ sv boutb ooutb noutb ∷ sv bhist ohist nhist ∷ sv bwork owork nwork ∷ sv bout oout nout ∷ machN non ∷ []) _ $
+        enter ! 𝓣.C 𝓣.Λ code.function (mach_k dk ∷ sv binb oinb ninb ∷ sv boutb ooutb noutb ∷ sv bhist ohist nhist ∷ sv bwork owork nwork ∷ sv bout oout nout ∷ mach_n non ∷ []) _ $
         alloc1 ! (λ l₀. alloc1 ! (λ l₁. alloc1 ! (λ l₂. alloc1 ! (λ l₃. alloc1 ! (λ l₄. alloc1 ! (λ l₅. alloc1 ! (λ l₆. alloc1 ! (λ l₇. alloc1 ! (λ l₈. alloc1 ! (λ l₉. alloc1 ! (λ l₁₀.
         alloc1 ! (λ l₁₁. alloc1 ! (λ l₁₂. alloc1 ! (λ l₁₃. alloc1 ! (λ l₁₄. alloc1 ! (λ l₁₅. alloc1 ! (λ l₁₆. alloc1 ! (λ l₁₇. alloc1 ! (λ l₁₈. alloc0 ! $
         move ! (38 ∷ 39 ∷ 40 ∷ 41 ∷ 42 ∷ 43 ∷ 44 ∷ 45 ∷ 46 ∷ 47 ∷ []) $ params1 ! $ pass1 ! (init ! 44 refl ((LL.lawful Dk.the_type Dk'.the_laws 𝓛).typed dk _ isdk).0) $

@@ -3,15 +3,15 @@ use Prim.Native.Nat.{◌-◌, ◌≤◌}
 use mathlib.Core.Path.{◌≡◌, sym, ◌∙◌}
 use native.Mathlib.Omega.{arith}
 use lib.ListN.{length}
-use Rattle.rules.specs.Limits.{highestField}
-use Rattle.fields.specs.Reading.{digitsRead}
-use Rattle.fields.proofs.FieldLaws.{end-here, end_none, readFrom, from_first, from_end, from-not, from_more}
+use Rattle.rules.specs.Limits.{highest_field}
+use Rattle.fields.specs.Reading.{digits_read}
+use Rattle.fields.proofs.FieldLaws.{end_here, end_none, read_from, from_first, from_end, from-not, from_more}
 use borrow.Author.Rules.{rules}
 use Rattle.fields.proofs.digits.Statement.{statement}
 use Rattle.fields.proofs.digits.Tie as tie
 
 abbrev invariant-loop : tie.invariant-loop
-invariant-loop s k v₀ i₀ v i = (v ≤ highestField) × (digitsRead k s ≡ readFrom k s v i)
+invariant-loop s k v₀ i₀ v i = (v ≤ highest_field) × (digits_read k s ≡ read_from k s v i)
 
 abbrev decreases-loop : tie.decreases-loop
 decreases-loop s k v₀ i₀ v i = length s - i
@@ -27,7 +27,7 @@ returns c =
     let l = c.before.before.before.loop in
     let a = c.before.before.before.before.before.args in
     let s = a.s.now in
-    sym (l.invariant.1 ∙ from_end a.k s l.v l.i (end-here s l.i c.before.before.loop-test.true c.if1.true) l.invariant.0)
+    sym (l.invariant.1 ∙ from_end a.k s l.v l.i (end_here s l.i c.before.before.loop-test.true c.if1.true) l.invariant.0)
 
 shared-slice-read-one-more : tie.Need-shared-slice-read-one-more invariant-loop decreases-loop
 shared-slice-read-one-more c = search rules

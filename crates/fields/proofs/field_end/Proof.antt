@@ -3,14 +3,14 @@ use Prim.Native.Nat.{◌+◌, ◌-◌, ◌≤◌}
 use mathlib.Core.Path.{◌≡◌}
 use native.Mathlib.Omega.{arith}
 use lib.ListN.{length, drop}
-use Rattle.rules.specs.Lines.{fieldEnd}
-use Rattle.fields.proofs.FieldLaws.{end-here, end_later, end_none}
+use Rattle.rules.specs.Lines.{field_end}
+use Rattle.fields.proofs.FieldLaws.{end_here, end_later, end_none}
 use borrow.Author.Rules.{rules}
 use Rattle.fields.proofs.field_end.Statement.{statement}
 use Rattle.fields.proofs.field_end.Tie as tie
 
 abbrev invariant-loop : tie.invariant-loop
-invariant-loop s i₀ i = (i ≤ length s) × (fieldEnd s ≡ i + fieldEnd (drop i s))
+invariant-loop s i₀ i = (i ≤ length s) × (field_end s ≡ i + field_end (drop i s))
 
 abbrev decreases-loop : tie.decreases-loop
 decreases-loop s i₀ i = length s - i
@@ -22,7 +22,7 @@ shared-slice-read-if1 : tie.Need-shared-slice-read-if1 invariant-loop decreases-
 shared-slice-read-if1 c = search rules
 
 returns : tie.Need-returns invariant-loop decreases-loop
-returns c = omega (arith, end-here c.before.before.before.before.args.s.now c.before.before.before.loop.i c.before.before.loop-test.true c.if1.true)
+returns c = omega (arith, end_here c.before.before.before.before.args.s.now c.before.before.before.loop.i c.before.before.loop-test.true c.if1.true)
 
 add-i : tie.Need-overflow-add-i invariant-loop decreases-loop
 add-i c = search rules

@@ -5,7 +5,7 @@ use lib.ListN.{length, drop}
 use borrow.Author.Tests.{not-true, not-false}
 use Rattle.rules.specs.Limits.{within}
 use Rattle.rules.specs.Lists.{all}
-use Rattle.frames.proofs.Laws.{all-fails, all-goes, all_end}
+use Rattle.frames.proofs.Laws.{all_fails, all_goes, all_end}
 use borrow.Author.Rules.{rules}
 use Rattle.frames.proofs.all_within.Statement.{statement}
 use Rattle.frames.proofs.all_within.Tie as tie
@@ -32,7 +32,7 @@ returns : tie.Need-returns invariant-loop decreases-loop
 returns c =
     let l = c.before.before.before.before in
     let a = c.before.before.before.before.before.before.args in
-    sym (l.loop.invariant.1 ∙ all-fails (within a.lo a.hi) a.s.now l.loop.i (omega arith) (sym c.before.is_Within.ensures ∙ not-true c.before.is_Within.result c.if1.true))
+    sym (l.loop.invariant.1 ∙ all_fails (within a.lo a.hi) a.s.now l.loop.i (omega arith) (sym c.before.is_within.ensures ∙ not-true c.before.is_within.result c.if1.true))
 
 add-i : tie.Need-overflow-add-i invariant-loop decreases-loop
 add-i c = search rules
@@ -44,7 +44,7 @@ loop-again : tie.Need-loop-preserved invariant-loop decreases-loop
 loop-again c =
     let l = c.before.before.before.before in
     let a = c.before.before.before.before.before.before.args in
-    (search rules, l.loop.invariant.1 ∙ all-goes (within a.lo a.hi) a.s.now l.loop.i (omega arith) (sym c.before.is_Within.ensures ∙ not-false c.before.is_Within.result c.if1.false))
+    (search rules, l.loop.invariant.1 ∙ all_goes (within a.lo a.hi) a.s.now l.loop.i (omega arith) (sym c.before.is_within.ensures ∙ not-false c.before.is_within.result c.if1.false))
 
 returns-2 : tie.Need-returns-2 invariant-loop decreases-loop
 returns-2 c =

@@ -6,7 +6,7 @@ use borrow.Author.Tests.{not-true, not-false}
 use borrow.Author.Rules.{rules}
 use Rattle.rules.specs.Limits.{within}
 use Rattle.rules.specs.Lists.{all}
-use Rattle.frames.proofs.Laws.{part-fails, part-goes, all_end}
+use Rattle.frames.proofs.Laws.{part_fails, part_goes, all_end}
 use Rattle.frames.proofs.balances_in_frame.Statement.{statement}
 use Rattle.frames.proofs.balances_in_frame.Tie as tie
 
@@ -44,7 +44,7 @@ returns : tie.Need-returns invariant-loop decreases-loop
 returns c =
     let l = c.before.before.before.before in
     let a = c.before.before.before.before.before.before.args in
-    sym (l.loop.invariant.1 ∙ part-fails (within 0 1000000000000000) a.b.now (l.loop.m * 8) (l.loop.m * 8 + 8 - l.loop.m * 8) (sym c.before.all-within.ensures ∙ not-true c.before.all-within.result c.if1.true))
+    sym (l.loop.invariant.1 ∙ part_fails (within 0 1000000000000000) a.b.now (l.loop.m * 8) (l.loop.m * 8 + 8 - l.loop.m * 8) (sym c.before.all-within.ensures ∙ not-true c.before.all-within.result c.if1.true))
 
 add-m : tie.Need-overflow-add-m invariant-loop decreases-loop
 add-m c = search rules
@@ -57,7 +57,7 @@ loop-again c =
     let l = c.before.before.before.before in
     let a = c.before.before.before.before.before.before.args in
     let e : l.loop.m * 8 + (l.loop.m * 8 + 8 - l.loop.m * 8) ≡ (l.loop.m + 1) * 8 = omega arith in
-    (search rules, l.loop.invariant.1 ∙ part-goes (within 0 1000000000000000) a.b.now (l.loop.m * 8) (l.loop.m * 8 + 8 - l.loop.m * 8) (sym c.before.all-within.ensures ∙ not-false c.before.all-within.result c.if1.false) ∙ rw e)
+    (search rules, l.loop.invariant.1 ∙ part_goes (within 0 1000000000000000) a.b.now (l.loop.m * 8) (l.loop.m * 8 + 8 - l.loop.m * 8) (sym c.before.all-within.ensures ∙ not-false c.before.all-within.result c.if1.false) ∙ rw e)
 
 returns-2 : tie.Need-returns-2 invariant-loop decreases-loop
 returns-2 c =

@@ -1,10 +1,10 @@
 use mathlib.Core.Path.{refl}
-use Rattle.frames.specs.Parts.{countsFrame}
+use Rattle.frames.specs.Parts.{counts_frame}
 use Rattle.frames.proofs.counts_in_frame.Statement.{statement}
 use Rattle.frames.proofs.counts_in_frame.Tie as tie
 
 returns : tie.Need-returns
-unfolding countsFrame
+unfolding counts_frame
 returns c = refl
 
 pub counts-in-frame-spec : {M : Type 1} → statement M

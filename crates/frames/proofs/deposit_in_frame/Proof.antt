@@ -8,25 +8,25 @@ is-within-requires : tie.Need-is-within-requires
 is-within-requires c κs = search rules
 
 returns : tie.Need-returns
-returns c = rw (sym c.before.is_Within.ensures ∙ not-true c.before.is_Within.result c.if1.true)
+returns c = rw (sym c.before.is_within.ensures ∙ not-true c.before.is_within.result c.if1.true)
 
 is-within-requires-2 : tie.Need-is-within-requires-2
 is-within-requires-2 c κs = search rules
 
 returns-2 : tie.Need-returns-2
-returns-2 c = rw (sym c.before.before.before.is_Within.ensures ∙ not-false c.before.before.before.is_Within.result c.before.before.if1.false, sym c.before.is-within2.ensures ∙ not-true c.before.is-within2.result c.if2.true)
+returns-2 c = rw (sym c.before.before.before.is_within.ensures ∙ not-false c.before.before.before.is_within.result c.before.before.if1.false, sym c.before.is-within2.ensures ∙ not-true c.before.is-within2.result c.if2.true)
 
 is-within-requires-3 : tie.Need-is-within-requires-3
 is-within-requires-3 c κs = search rules
 
 returns-3 : tie.Need-returns-3
-returns-3 c = rw (sym c.before.before.before.before.before.is_Within.ensures ∙ not-false c.before.before.before.before.before.is_Within.result c.before.before.before.before.if1.false, sym c.before.before.before.is-within2.ensures ∙ not-false c.before.before.before.is-within2.result c.before.before.if2.false, sym c.before.is-within3.ensures ∙ not-true c.before.is-within3.result c.if3.true)
+returns-3 c = rw (sym c.before.before.before.before.before.is_within.ensures ∙ not-false c.before.before.before.before.before.is_within.result c.before.before.before.before.if1.false, sym c.before.before.before.is-within2.ensures ∙ not-false c.before.before.before.is-within2.result c.before.before.if2.false, sym c.before.is-within3.ensures ∙ not-true c.before.is-within3.result c.if3.true)
 
 returns-4 : tie.Need-returns-4
-returns-4 c = rw (sym c.before.before.before.before.before.before.is_Within.ensures ∙ not-false c.before.before.before.before.before.before.is_Within.result c.before.before.before.before.before.if1.false, sym c.before.before.before.before.is-within2.ensures ∙ not-false c.before.before.before.before.is-within2.result c.before.before.before.if2.false, sym c.before.before.is-within3.ensures ∙ not-false c.before.before.is-within3.result c.before.if3.false, le-ltb _ _ c.if4.true)
+returns-4 c = rw (sym c.before.before.before.before.before.before.is_within.ensures ∙ not-false c.before.before.before.before.before.before.is_within.result c.before.before.before.before.before.if1.false, sym c.before.before.before.before.is-within2.ensures ∙ not-false c.before.before.before.before.is-within2.result c.before.before.before.if2.false, sym c.before.before.is-within3.ensures ∙ not-false c.before.before.is-within3.result c.before.if3.false, le-ltb _ _ c.if4.true)
 
 returns-5 : tie.Need-returns-5
-returns-5 c = rw (sym c.before.before.before.before.before.before.is_Within.ensures ∙ not-false c.before.before.before.before.before.before.is_Within.result c.before.before.before.before.before.if1.false, sym c.before.before.before.before.is-within2.ensures ∙ not-false c.before.before.before.before.is-within2.result c.before.before.before.if2.false, sym c.before.before.is-within3.ensures ∙ not-false c.before.before.is-within3.result c.before.if3.false, lt-ltb _ _ c.if4.false)
+returns-5 c = rw (sym c.before.before.before.before.before.before.is_within.ensures ∙ not-false c.before.before.before.before.before.before.is_within.result c.before.before.before.before.before.if1.false, sym c.before.before.before.before.is-within2.ensures ∙ not-false c.before.before.before.before.is-within2.result c.before.before.before.if2.false, sym c.before.before.is-within3.ensures ∙ not-false c.before.before.is-within3.result c.before.if3.false, lt-ltb _ _ c.if4.false)
 
 pub deposit-in-frame-spec : {M : Type 1} → statement M
 deposit-in-frame-spec =

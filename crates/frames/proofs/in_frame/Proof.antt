@@ -1,4 +1,4 @@
-use Rattle.frames.proofs.Frames.{frame-parts}
+use Rattle.frames.proofs.Frames.{frame_parts}
 use borrow.Author.Rules.{rules}
 use Rattle.frames.proofs.in_frame.Statement.{statement}
 use Rattle.frames.proofs.in_frame.Tie as tie
@@ -16,7 +16,7 @@ outbox-in-frame-requires : tie.Need-outbox-in-frame-requires
 outbox-in-frame-requires c κs = search rules
 
 returns : tie.Need-returns
-returns c = rw (frame-parts, c.before.before.before.counts-in-frame.ensures, c.before.before.lists-in-frame.ensures, c.before.inbox-in-frame.ensures, c.outbox-in-frame.ensures)
+returns c = rw (frame_parts, c.before.before.before.counts-in-frame.ensures, c.before.before.lists-in-frame.ensures, c.before.inbox-in-frame.ensures, c.outbox-in-frame.ensures)
 
 pub in-frame-spec : {M : Type 1} → statement M
 in-frame-spec =

@@ -3,15 +3,15 @@ use mathlib.Core.Path.{◌≡◌, sym, ◌∙◌}
 use native.Mathlib.Omega.{arith}
 use lib.ListN.{length}
 use borrow.Author.Tests.{not-true, not-false}
-use Rattle.rules.specs.Limits.{inboxRows}
-use Rattle.rules.specs.Tables.{depositShape}
-use Rattle.frames.proofs.Frames.{InboxFrom, inbox-size, inbox-count, inbox-none, inbox-row, inbox-fails, inbox-goes, inbox-end}
+use Rattle.rules.specs.Limits.{inbox_rows}
+use Rattle.rules.specs.Tables.{deposit_shape}
+use Rattle.frames.proofs.Frames.{InboxFrom, inbox-size, inbox-count, inbox-none, inbox-row, inbox_fails, inbox_goes, inbox_end}
 use borrow.Author.Rules.{rules}
 use Rattle.frames.proofs.inbox_in_frame.Statement.{statement}
 use Rattle.frames.proofs.inbox_in_frame.Tie as tie
 
 abbrev invariant-loop : tie.invariant-loop
-invariant-loop t n last i₀ before₀ i before = (i ≤ n) × (n ≤ inboxRows) × (length t ≡ inboxRows * depositShape.width) × InboxFrom t n last before i
+invariant-loop t n last i₀ before₀ i before = (i ≤ n) × (n ≤ inbox_rows) × (length t ≡ inbox_rows * deposit_shape.width) × InboxFrom t n last before i
 
 abbrev decreases-loop : tie.decreases-loop
 decreases-loop t n last i₀ before₀ i before = n - i
@@ -70,7 +70,7 @@ returns-3 : tie.Need-returns-3 invariant-loop decreases-loop
 returns-3 c =
     let l = c.before.before.before.before.before.before.before in
     let a = c.before.before.before.before.before.before.before.before.before.before.before.args in
-    inbox-fails a.t.now a.n a.last l.loop.before l.loop.i (omega arith) l.loop.invariant.3
+    inbox_fails a.t.now a.n a.last l.loop.before l.loop.i (omega arith) l.loop.invariant.3
     (inbox-row a.t.now a.n a.last l.loop.before l.loop.i ∙ sym c.before.deposit-in-frame.ensures ∙ not-true c.before.deposit-in-frame.result c.if3.true)
 
 add-i : tie.Need-overflow-add-i invariant-loop decreases-loop
@@ -86,7 +86,7 @@ loop-again c =
       search rules,
       l.loop.invariant.1,
       l.loop.invariant.2,
-      inbox-goes a.t.now a.n a.last l.loop.before l.loop.i (omega arith) l.loop.invariant.3
+      inbox_goes a.t.now a.n a.last l.loop.before l.loop.i (omega arith) l.loop.invariant.3
           (inbox-row a.t.now a.n a.last l.loop.before l.loop.i ∙ sym c.before.deposit-in-frame.ensures ∙ not-false c.before.deposit-in-frame.result c.if3.false),
     )
 
@@ -94,7 +94,7 @@ returns-4 : tie.Need-returns-4 invariant-loop decreases-loop
 returns-4 c =
     let l = c.before in
     let a = c.before.before.before.before.before.args in
-    inbox-end a.t.now a.n a.last l.loop.before l.loop.i (omega arith) l.loop.invariant.3
+    inbox_end a.t.now a.n a.last l.loop.before l.loop.i (omega arith) l.loop.invariant.3
 
 pub inbox-in-frame-spec : {M : Type 1} → statement M
 inbox-in-frame-spec =

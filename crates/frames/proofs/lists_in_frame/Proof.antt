@@ -1,5 +1,5 @@
 use Rattle.rules.specs.Limits.{ceiling}
-use Rattle.frames.specs.Parts.{listsFrame}
+use Rattle.frames.specs.Parts.{lists_frame}
 use Rattle.frames.proofs.Laws.{all-up-to}
 use borrow.Author.Rules.{rules}
 use Rattle.frames.proofs.lists_in_frame.Statement.{statement}
@@ -18,7 +18,7 @@ all-within-requires-3 : tie.Need-all-within-requires-3
 all-within-requires-3 c κs = search rules
 
 returns : tie.Need-returns
-unfolding listsFrame
+unfolding lists_frame
 returns c = rw (c.before.before.before.before.before.before.balances-in-frame.ensures, c.before.before.before.before.all-within.ensures, c.before.before.all-within2.ensures, c.all-within3.ensures, all-up-to ceiling, all-up-to ceiling, all-up-to ceiling)
 
 pub lists-in-frame-spec : {M : Type 1} → statement M

@@ -3,15 +3,15 @@ use mathlib.Core.Path.{◌≡◌, sym, ◌∙◌}
 use native.Mathlib.Omega.{arith}
 use lib.ListN.{length}
 use borrow.Author.Tests.{not-true, not-false}
-use Rattle.rules.specs.Limits.{outboxRows}
-use Rattle.rules.specs.Tables.{paymentShape}
-use Rattle.frames.proofs.Frames.{OutboxFrom, outbox-size, outbox-count, outbox-before, outbox-none, outbox-row, outbox-fails, outbox-goes, outbox-end}
+use Rattle.rules.specs.Limits.{outbox_rows}
+use Rattle.rules.specs.Tables.{payment_shape}
+use Rattle.frames.proofs.Frames.{OutboxFrom, outbox-size, outbox-count, outbox-before, outbox-none, outbox-row, outbox_fails, outbox_goes, outbox_end}
 use borrow.Author.Rules.{rules}
 use Rattle.frames.proofs.outbox_in_frame.Statement.{statement}
 use Rattle.frames.proofs.outbox_in_frame.Tie as tie
 
 abbrev invariant-loop : tie.invariant-loop
-invariant-loop t n next used i₀ due₀ i due = (i ≤ n) × (n ≤ outboxRows) × (length t ≡ outboxRows * paymentShape.width) × (due + (n - i) ≡ next) × OutboxFrom t n next due i
+invariant-loop t n next used i₀ due₀ i due = (i ≤ n) × (n ≤ outbox_rows) × (length t ≡ outbox_rows * payment_shape.width) × (due + (n - i) ≡ next) × OutboxFrom t n next due i
 
 abbrev decreases-loop : tie.decreases-loop
 decreases-loop t n next used i₀ due₀ i due = n - i
@@ -74,7 +74,7 @@ returns-4 : tie.Need-returns-4 invariant-loop decreases-loop
 returns-4 c =
     let l = c.before.before.before.before.before.before.before in
     let a = c.before.before.before.before.before.before.before.before.before.before.before.before.args in
-    outbox-fails a.t.now a.n a.next l.loop.due l.loop.i (omega arith) l.loop.invariant.4
+    outbox_fails a.t.now a.n a.next l.loop.due l.loop.i (omega arith) l.loop.invariant.4
     (outbox-row a.t.now a.n a.next l.loop.due l.loop.i ∙ sym c.before.payment-in-frame.ensures ∙ not-true c.before.payment-in-frame.result c.if4.true)
 
 add-due : tie.Need-overflow-add-due invariant-loop decreases-loop
@@ -94,7 +94,7 @@ loop-again c =
       l.loop.invariant.1,
       l.loop.invariant.2,
       omega arith,
-      outbox-goes a.t.now a.n a.next l.loop.due l.loop.i (omega arith) l.loop.invariant.4
+      outbox_goes a.t.now a.n a.next l.loop.due l.loop.i (omega arith) l.loop.invariant.4
           (outbox-row a.t.now a.n a.next l.loop.due l.loop.i ∙ sym c.before.payment-in-frame.ensures ∙ not-false c.before.payment-in-frame.result c.if4.false),
     )
 
@@ -102,7 +102,7 @@ returns-5 : tie.Need-returns-5 invariant-loop decreases-loop
 returns-5 c =
     let l = c.before in
     let a = c.before.before.before.before.before.before.args in
-    outbox-end a.t.now a.n a.next l.loop.due l.loop.i (omega arith) l.loop.invariant.4
+    outbox_end a.t.now a.n a.next l.loop.due l.loop.i (omega arith) l.loop.invariant.4
 
 pub outbox-in-frame-spec : {M : Type 1} → statement M
 outbox-in-frame-spec =

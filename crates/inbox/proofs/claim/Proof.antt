@@ -4,30 +4,30 @@ use borrow.Author.Tests.{not-true, not-false}
 use Rattle.rules.specs.declared.calls.Call.{Call}
 use Rattle.rules.specs.declared.answers.Answer.{Answer}
 use Rattle.rules.specs.declared.answers.Refusal.{Refusal}
-use Rattle.rules.specs.Tables.{recordShape}
+use Rattle.rules.specs.Tables.{record_shape}
 use Rattle.rules.specs.State.{Book, view}
 use Rattle.rules.specs.Replies.{told, plain}
-use Rattle.rules.specs.Answer.{bookOf, frameTest, replyNumber}
+use Rattle.rules.specs.Answer.{book_of, frame_test, reply_number}
 use Rattle.rules.specs.Facts.{Accepted}
 use Rattle.rules.proofs.Laying.{length-rows}
 use Rattle.rules.proofs.Books.{framed}
 use Rattle.desk.proofs.Books.{frame-told, refuses, accepts}
-use Rattle.inbox.proofs.Laws.{waits-is}
+use Rattle.inbox.proofs.Laws.{waits_is}
 use borrow.Author.Rules.{rules}
 use Rattle.inbox.proofs.claim.Statement.{statement}
 use Rattle.inbox.proofs.claim.Tie as tie
 
 -- the book that came
 book : tie.Start → Book
-book c = bookOf c.args.d c.args.inbox.now c.args.outbox.now c.args.history.now
+book c = book_of c.args.d c.args.inbox.now c.args.outbox.now c.args.history.now
 
 -- the reply is the rules': the frame's test, and then the table's, which read what the book has
-replied : (c : tie.After-refuse) → told c.refuse.result ≡ plain (replyNumber (book c.before.before.before.before.before.before.before.before.before.before) (Call.Claim c.before.before.before.before.before.before.before.before.before.before.args.c))
-unfolding book frameTest
+replied : (c : tie.After-refuse) → told c.refuse.result ≡ plain (reply_number (book c.before.before.before.before.before.before.before.before.before.before) (Call.Claim c.before.before.before.before.before.before.before.before.before.before.args.c))
+unfolding book frame_test
 replied c =
     let b : Book = book c.before.before.before.before.before.before.before.before.before.before in
     frame-told b (Call.Claim c.before.before.before.before.before.before.before.before.before.before.args.c) c.refuse.result c.before.claim-reply.result refl
-    (λ f. c.before.claim-reply.ensures (view b) (waits-is b c.before.before.before.before.before.before.before.before.before.before.args.c (framed b f) ∙ sym c.before.before.is-unclaimed.ensures) (unfold view in length-rows recordShape b.desk.counts.records b.history))
+    (λ f. c.before.claim-reply.ensures (view b) (waits_is b c.before.before.before.before.before.before.before.before.before.before.args.c (framed b f) ∙ sym c.before.before.is-unclaimed.ensures) (unfold view in length-rows record_shape b.desk.counts.records b.history))
     (c.refuse.ensures ∙ ap (λ (t : Bool). cond (not t) (Answer.Refused Refusal.BadBook) c.before.claim-reply.result) c.before.before.before.before.framed.ensures)
 
 -- past the test the call is accepted

@@ -1,7 +1,7 @@
 use native.Mathlib.Omega.{arith}
 use Rattle.rules.specs.Effects.{credit}
 use Rattle.desk.proofs.Books.{balance-low, balance-set}
-use Rattle.inbox.specs.After.{claimedDesk}
+use Rattle.inbox.specs.After.{claimed_desk}
 use borrow.Author.Rules.{rules}
 use Rattle.inbox.proofs.claimed.Statement.{statement}
 use Rattle.inbox.proofs.claimed.Tie as tie
@@ -25,7 +25,7 @@ add-counts : tie.Need-overflow-add-counts
 add-counts c = search rules
 
 returns : tie.Need-returns
-unfolding claimedDesk credit
+unfolding claimed_desk credit
 returns c =
     let a = c.before.before.before.before.before.before.before.before.before.args in
     let p = c.before.before.before.before.before.before.before.before.before.requires in

@@ -4,10 +4,10 @@ use borrow.Author.Tests.{not-true, not-false}
 use Rattle.rules.specs.declared.calls.Call.{Call}
 use Rattle.rules.specs.declared.answers.Answer.{Answer}
 use Rattle.rules.specs.declared.answers.Refusal.{Refusal}
-use Rattle.rules.specs.Tables.{depositShape}
+use Rattle.rules.specs.Tables.{deposit_shape}
 use Rattle.rules.specs.State.{Book, view}
 use Rattle.rules.specs.Replies.{told, plain}
-use Rattle.rules.specs.Answer.{bookOf, frameTest, replyNumber}
+use Rattle.rules.specs.Answer.{book_of, frame_test, reply_number}
 use Rattle.rules.specs.Facts.{Accepted}
 use Rattle.rules.proofs.Laying.{length-rows}
 use Rattle.desk.proofs.Books.{frame-told, refuses, accepts}
@@ -17,15 +17,15 @@ use Rattle.inbox.proofs.deposit.Tie as tie
 
 -- the book that came
 book : tie.Start → Book
-book c = bookOf c.args.t1 c.args.inbox.now c.args.outbox.now c.args.history.now
+book c = book_of c.args.t1 c.args.inbox.now c.args.outbox.now c.args.history.now
 
 -- the reply is the rules': the frame's test, and then the table's, which read what the desk has
-replied : (c : tie.After-refuse) → told c.refuse.result ≡ plain (replyNumber (book c.before.before.before.before.before.before.before.before.before.before.before) (Call.Deposit c.before.before.before.before.before.before.before.before.before.before.before.args.x))
-unfolding book frameTest view
+replied : (c : tie.After-refuse) → told c.refuse.result ≡ plain (reply_number (book c.before.before.before.before.before.before.before.before.before.before.before) (Call.Deposit c.before.before.before.before.before.before.before.before.before.before.before.args.x))
+unfolding book frame_test view
 replied c =
     let b : Book = book c.before.before.before.before.before.before.before.before.before.before.before in
     frame-told b (Call.Deposit c.before.before.before.before.before.before.before.before.before.before.before.args.x) c.refuse.result c.before.deposit-reply.result refl
-    (λ f. c.before.deposit-reply.ensures (view b) refl refl (length-rows depositShape b.desk.counts.unclaimed b.inbox))
+    (λ f. c.before.deposit-reply.ensures (view b) refl refl (length-rows deposit_shape b.desk.counts.unclaimed b.inbox))
     (c.refuse.ensures ∙ ap (λ (t : Bool). cond (not t) (Answer.Refused Refusal.BadBook) c.before.deposit-reply.result) c.before.before.before.before.before.before.framed.ensures)
 
 -- past the test the call is accepted

@@ -1,7 +1,7 @@
 use native.Mathlib.Omega.{arith}
 use Rattle.rules.specs.Effects.{raised, total}
-use Rattle.desk.proofs.Books.{eight-low, eight-set}
-use Rattle.inbox.specs.After.{depositedDesk}
+use Rattle.desk.proofs.Books.{eight_low, eight_set_lem}
+use Rattle.inbox.specs.After.{deposited_desk}
 use borrow.Author.Rules.{rules}
 use Rattle.inbox.proofs.deposited.Statement.{statement}
 use Rattle.inbox.proofs.deposited.Tie as tie
@@ -13,7 +13,7 @@ add-more : tie.Need-overflow-add-more
 add-more c =
     let a = c.before.before.before.before.args in
     let p = c.before.before.before.before.requires in
-    omega (arith, c.before.of-eight.ensures, eight-low a.d.lifetime a.x.asset p.lifetime, p.amount)
+    omega (arith, c.before.of-eight.ensures, eight_low a.d.lifetime a.x.asset p.lifetime, p.amount)
 
 set-of-eight-requires : tie.Need-set-of-eight-requires
 set-of-eight-requires c κs = search rules
@@ -22,11 +22,11 @@ add-counts : tie.Need-overflow-add-counts
 add-counts c = search rules
 
 returns : tie.Need-returns
-unfolding depositedDesk raised total
+unfolding deposited_desk raised total
 returns c =
     let a = c.before.before.before.before.before.before.before.before.before.args in
     let p = c.before.before.before.before.before.before.before.before.before.requires in
-    rw (c.before.before.before.set-of-eight.ensures, c.before.before.before.before.before.before.of-eight.ensures, eight-set a.d.lifetime a.x.asset _ p.asset)
+    rw (c.before.before.before.set-of-eight.ensures, c.before.before.before.before.before.before.of-eight.ensures, eight_set_lem a.d.lifetime a.x.asset _ p.asset)
 
 pub deposited-spec : {M : Type 1} → statement M
 deposited-spec =

@@ -1,4 +1,4 @@
-use Rattle.inbox.proofs.Laws.{gap_below, gap-above}
+use Rattle.inbox.proofs.Laws.{gap_below, gap_above}
 use borrow.Author.Rules.{rules}
 use Rattle.inbox.proofs.is_gap.Statement.{statement}
 use Rattle.inbox.proofs.is_gap.Tie as tie
@@ -10,7 +10,7 @@ sub-result : tie.Need-overflow-sub-result
 sub-result c = search rules
 
 returns-2 : tie.Need-returns-2
-returns-2 c = gap-above _ _ c.if1.false
+returns-2 c = gap_above _ _ c.if1.false
 
 pub is-gap-spec : {M : Type 1} → statement M
 is-gap-spec = tie.close (tie.spec returns sub-result returns-2)

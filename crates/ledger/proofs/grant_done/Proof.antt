@@ -3,23 +3,23 @@ use Rattle.rules.specs.declared.calls.Call.{Call}
 use Rattle.rules.specs.declared.answers.Answer.{Answer}
 use Rattle.rules.specs.State.{Book}
 use Rattle.rules.specs.Replies.{told}
-use Rattle.rules.specs.Answer.{bookOf, doneAnswer, pieces_of}
+use Rattle.rules.specs.Answer.{book_of, done_answer, pieces_of}
 use Rattle.rules.proofs.Accepts.{accepted-frame}
 use Rattle.rules.proofs.Books.{framed}
 use Rattle.desk.proofs.Books.{lays}
 use Rattle.ledger.specs.After.{CanGrant}
-use Rattle.ledger.proofs.Laws.{can-grant, grant-laid}
+use Rattle.ledger.proofs.Laws.{can_grant, grant-laid}
 use borrow.Author.Rules.{rules}
 use Rattle.ledger.proofs.grant_done.Statement.{statement}
 use Rattle.ledger.proofs.grant_done.Tie as tie
 
 -- the book that came
 book : tie.Start → Book
-book c = bookOf c.args.d c.args.inbox.now c.args.outbox.now c.args.history.now
+book c = book_of c.args.d c.args.inbox.now c.args.outbox.now c.args.history.now
 
 can : (c : tie.Start) → CanGrant c.args.d c.args.g
 unfolding book
-can c = can-grant (book c) c.args.g c.requires
+can c = can_grant (book c) c.args.g c.requires
 
 grant-record-requires : tie.Need-grant-record-requires
 grant-record-requires c κs = search rules
@@ -34,7 +34,7 @@ same_length : tie.Need-same-length
 same_length c = search rules
 
 returns : tie.Need-returns
-unfolding book told doneAnswer pieces_of
+unfolding book told done_answer pieces_of
 returns c =
     let a = c.before.before.before.before.before.before.before.before.before.args in
     let p = c.before.before.before.before.before.before.before.before.before.requires in

@@ -1,5 +1,5 @@
-use Rattle.desk.proofs.Books.{eight-set}
-use Rattle.ledger.specs.After.{grantedDesk}
+use Rattle.desk.proofs.Books.{eight_set_lem}
+use Rattle.ledger.specs.After.{granted_desk}
 use borrow.Author.Rules.{rules}
 use Rattle.ledger.proofs.granted.Statement.{statement}
 use Rattle.ledger.proofs.granted.Tie as tie
@@ -11,10 +11,10 @@ add-counts : tie.Need-overflow-add-counts
 add-counts c = search rules
 
 returns : tie.Need-returns
-unfolding grantedDesk
+unfolding granted_desk
 returns c =
     let a = c.before.before.before.before.args in
-    rw (c.before.before.set-of-eight.ensures, eight-set a.d.holders a.g.domain _ c.before.before.before.before.requires.domain)
+    rw (c.before.before.set-of-eight.ensures, eight_set_lem a.d.holders a.g.domain _ c.before.before.before.before.requires.domain)
 
 pub granted-spec : {M : Type 1} → statement M
 granted-spec = tie.close (tie.spec set-of-eight-requires add-counts returns)

@@ -4,7 +4,7 @@ use Rattle.rules.specs.declared.calls.Call.{Call}
 use Rattle.rules.specs.declared.answers.Answer.{Answer}
 use Rattle.rules.specs.declared.answers.Refusal.{Refusal}
 use Rattle.rules.specs.State.{Book, view}
-use Rattle.rules.specs.Answer.{bookOf, frameTest}
+use Rattle.rules.specs.Answer.{book_of, frame_test}
 use Rattle.desk.proofs.Books.{frame-told}
 use Rattle.ledger.proofs.Laws.{sign-answers}
 use borrow.Author.Rules.{rules}
@@ -21,10 +21,10 @@ refuse-requires : tie.Need-refuse-requires
 refuse-requires c κs = search rules
 
 returns : tie.Need-returns
-unfolding frameTest view
+unfolding frame_test view
 returns c =
     let a = c.before.before.before.before.before.before.before.before.args in
-    let b : Book = bookOf a.t1 a.inbox.now a.outbox.now a.history.now in
+    let b : Book = book_of a.t1 a.inbox.now a.outbox.now a.history.now in
     sign-answers b a.s c.refuse.result
     (frame-told b (Call.Sign a.s) c.refuse.result c.before.sign-reply.result refl (λ h. c.before.sign-reply.ensures (view b) refl)
     (c.refuse.ensures ∙ ap (λ (t : Bool). cond (not t) (Answer.Refused Refusal.BadBook) c.before.sign-reply.result) c.before.before.before.before.framed.ensures))

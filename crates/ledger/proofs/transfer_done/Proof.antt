@@ -3,23 +3,23 @@ use Rattle.rules.specs.declared.calls.Call.{Call}
 use Rattle.rules.specs.declared.answers.Answer.{Answer}
 use Rattle.rules.specs.State.{Book}
 use Rattle.rules.specs.Replies.{told}
-use Rattle.rules.specs.Answer.{bookOf, doneAnswer, pieces_of}
+use Rattle.rules.specs.Answer.{book_of, done_answer, pieces_of}
 use Rattle.rules.proofs.Accepts.{accepted-frame}
 use Rattle.rules.proofs.Books.{framed}
 use Rattle.desk.proofs.Books.{lays}
 use Rattle.ledger.specs.After.{CanTransfer}
-use Rattle.ledger.proofs.Laws.{can-transfer, transfer-laid}
+use Rattle.ledger.proofs.Laws.{can_transfer, transfer-laid}
 use borrow.Author.Rules.{rules}
 use Rattle.ledger.proofs.transfer_done.Statement.{statement}
 use Rattle.ledger.proofs.transfer_done.Tie as tie
 
 -- the book that came
 book : tie.Start → Book
-book c = bookOf c.args.d c.args.inbox.now c.args.outbox.now c.args.history.now
+book c = book_of c.args.d c.args.inbox.now c.args.outbox.now c.args.history.now
 
 can : (c : tie.Start) → CanTransfer c.args.d c.args.t
 unfolding book
-can c = can-transfer (book c) c.args.t c.requires
+can c = can_transfer (book c) c.args.t c.requires
 
 transfer-record-requires : tie.Need-transfer-record-requires
 transfer-record-requires c κs = search rules
@@ -34,7 +34,7 @@ same_length : tie.Need-same-length
 same_length c = search rules
 
 returns : tie.Need-returns
-unfolding book told doneAnswer pieces_of
+unfolding book told done_answer pieces_of
 returns c =
     let a = c.before.before.before.before.before.before.before.before.before.args in
     let p = c.before.before.before.before.before.before.before.before.before.requires in

@@ -4,7 +4,7 @@ use native.Mathlib.Omega.{arith}
 use Rattle.rules.specs.Limits.{ceiling}
 use Rattle.rules.specs.Effects.{balance, credit, debit}
 use Rattle.desk.proofs.Books.{balance-low, balance-set}
-use Rattle.ledger.specs.After.{transferredDesk}
+use Rattle.ledger.specs.After.{transferred_desk}
 use Rattle.ledger.proofs.Laws.{sent-low}
 use borrow.Author.Rules.{rules}
 use Rattle.ledger.proofs.transferred.Statement.{statement}
@@ -44,7 +44,7 @@ add-counts : tie.Need-overflow-add-counts
 add-counts c = search rules
 
 returns : tie.Need-returns
-unfolding transferredDesk credit
+unfolding transferred_desk credit
 returns c =
     let a = c.before.before.before.before.before.before.before.before.before.before.before.before.before.before.args in
     let p = c.before.before.before.before.before.before.before.before.before.before.before.before.before.before.requires in

@@ -6,7 +6,7 @@ use Rattle.rules.specs.declared.answers.Answer.{Answer}
 use Rattle.rules.specs.declared.answers.Refusal.{Refusal}
 use Rattle.rules.specs.State.{Book, view}
 use Rattle.rules.specs.Replies.{told, plain}
-use Rattle.rules.specs.Answer.{bookOf, frameTest, replyNumber}
+use Rattle.rules.specs.Answer.{book_of, frame_test, reply_number}
 use Rattle.rules.specs.Facts.{Accepted}
 use Rattle.desk.proofs.Books.{frame-told, refuses, accepts}
 use Rattle.outbox.proofs.Laws.{waiting-count}
@@ -16,11 +16,11 @@ use Rattle.outbox.proofs.send.Tie as tie
 
 -- the book that came
 book : tie.Start → Book
-book c = bookOf c.args.d c.args.inbox.now c.args.outbox.now c.args.history.now
+book c = book_of c.args.d c.args.inbox.now c.args.outbox.now c.args.history.now
 
 -- the reply is the rules': the frame's test, and then the table's, which read what the book has
-replied : (c : tie.After-refuse) → told c.refuse.result ≡ plain (replyNumber (book c.before.before.before.before.before.before.before) Call.Send)
-unfolding book frameTest
+replied : (c : tie.After-refuse) → told c.refuse.result ≡ plain (reply_number (book c.before.before.before.before.before.before.before) Call.Send)
+unfolding book frame_test
 replied c =
     let b : Book = book c.before.before.before.before.before.before.before in
     frame-told b Call.Send c.refuse.result c.before.send-reply.result refl

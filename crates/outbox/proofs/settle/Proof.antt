@@ -7,26 +7,26 @@ use Rattle.rules.specs.declared.answers.Refusal.{Refusal}
 use Rattle.rules.specs.declared.rows.Payment.{Payment}
 use Rattle.rules.specs.State.{Book, view}
 use Rattle.rules.specs.Replies.{told, plain}
-use Rattle.rules.specs.Answer.{bookOf, frameTest, replyNumber}
+use Rattle.rules.specs.Answer.{book_of, frame_test, reply_number}
 use Rattle.rules.specs.Facts.{Accepted}
-use Rattle.rules.proofs.Books.{framed, flight-count}
+use Rattle.rules.proofs.Books.{framed, flight_count}
 use Rattle.desk.proofs.Books.{frame-told, refuses, accepts}
-use Rattle.outbox.proofs.Laws.{flight-row}
+use Rattle.outbox.proofs.Laws.{flight_row}
 use borrow.Author.Rules.{rules}
 use Rattle.outbox.proofs.settle.Statement.{statement}
 use Rattle.outbox.proofs.settle.Tie as tie
 
 -- the book that came
 book : tie.Start → Book
-book c = bookOf c.args.d c.args.inbox.now c.args.outbox.now c.args.history.now
+book c = book_of c.args.d c.args.inbox.now c.args.outbox.now c.args.history.now
 
 -- the reply is the rules': the frame's test, and then the table's, which read what the book has
-replied : (c : tie.After-refuse) → told c.refuse.result ≡ plain (replyNumber (book c.before.before.before.before.before.before.before.before.before) (Call.Settle c.before.before.before.before.before.before.before.before.before.args.n))
-unfolding book frameTest
+replied : (c : tie.After-refuse) → told c.refuse.result ≡ plain (reply_number (book c.before.before.before.before.before.before.before.before.before) (Call.Settle c.before.before.before.before.before.before.before.before.before.args.n))
+unfolding book frame_test
 replied c =
     let b : Book = book c.before.before.before.before.before.before.before.before.before in
     frame-told b (Call.Settle c.before.before.before.before.before.before.before.before.before.args.n) c.refuse.result c.before.settle-reply.result refl
-    (λ f. c.before.settle-reply.ensures (view b) (flight-count b (framed b f)) (λ h. ap (λ (p : Payment). p.nonce) (flight-row b (framed b f) h) ∙ sym c.before.before.first-nonce.ensures))
+    (λ f. c.before.settle-reply.ensures (view b) (flight_count b (framed b f)) (λ h. ap (λ (p : Payment). p.nonce) (flight_row b (framed b f) h) ∙ sym c.before.before.first-nonce.ensures))
     (c.refuse.ensures ∙ ap (λ (t : Bool). cond (not t) (Answer.Refused Refusal.BadBook) c.before.settle-reply.result) c.before.before.before.before.framed.ensures)
 
 -- past the test the call is accepted

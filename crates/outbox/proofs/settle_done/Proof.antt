@@ -3,23 +3,23 @@ use Rattle.rules.specs.declared.calls.Call.{Call}
 use Rattle.rules.specs.declared.answers.Answer.{Answer}
 use Rattle.rules.specs.State.{Book}
 use Rattle.rules.specs.Replies.{told}
-use Rattle.rules.specs.Answer.{bookOf, doneAnswer, pieces_of}
+use Rattle.rules.specs.Answer.{book_of, done_answer, pieces_of}
 use Rattle.rules.proofs.Accepts.{accepted-frame}
 use Rattle.rules.proofs.Books.{framed}
 use Rattle.desk.proofs.Books.{lays}
-use Rattle.outbox.specs.After.{CanSettle, paymentAt}
-use Rattle.outbox.proofs.Laws.{can-settle, settle-laid}
+use Rattle.outbox.specs.After.{CanSettle, payment_at}
+use Rattle.outbox.proofs.Laws.{can_settle, settle-laid}
 use borrow.Author.Rules.{rules}
 use Rattle.outbox.proofs.settle_done.Statement.{statement}
 use Rattle.outbox.proofs.settle_done.Tie as tie
 
 -- the book that came
 book : tie.Start → Book
-book c = bookOf c.args.d c.args.inbox.now c.args.outbox.now c.args.history.now
+book c = book_of c.args.d c.args.inbox.now c.args.outbox.now c.args.history.now
 
-can : (c : tie.Start) → CanSettle c.args.d (paymentAt c.args.outbox.now 0)
+can : (c : tie.Start) → CanSettle c.args.d (payment_at c.args.outbox.now 0)
 unfolding book
-can c = can-settle (book c) c.args.n c.requires
+can c = can_settle (book c) c.args.n c.requires
 
 payment-at-requires : tie.Need-payment-at-requires
 payment-at-requires c κs = search rules
@@ -34,7 +34,7 @@ same_length : tie.Need-same-length
 same_length c = search rules
 
 returns : tie.Need-returns
-unfolding book told doneAnswer pieces_of
+unfolding book told done_answer pieces_of
 returns c =
     let s : tie.Start = c.before.before.before.before.before.before.before.before.before.before in
     let b : Book = book s in

@@ -1,7 +1,7 @@
 use native.Mathlib.Omega.{arith}
 use Rattle.rules.specs.Effects.{raised, total}
-use Rattle.desk.proofs.Books.{eight-set}
-use Rattle.outbox.specs.After.{settledDesk}
+use Rattle.desk.proofs.Books.{eight_set_lem}
+use Rattle.outbox.specs.After.{settled_desk}
 use Rattle.outbox.proofs.Laws.{settled-low}
 use borrow.Author.Rules.{rules}
 use Rattle.outbox.proofs.settled.Statement.{statement}
@@ -26,11 +26,11 @@ sub-counts-2 : tie.Need-overflow-sub-counts-2
 sub-counts-2 c = search rules
 
 returns : tie.Need-returns
-unfolding settledDesk raised total
+unfolding settled_desk raised total
 returns c =
     let a = c.before.before.before.before.before.before.before.before.before.args in
     let p = c.before.before.before.before.before.before.before.before.before.requires in
-    rw (c.before.before.before.set-of-eight.ensures, c.before.before.before.before.before.before.of-eight.ensures, eight-set a.d.settled a.p.asset _ p.asset)
+    rw (c.before.before.before.set-of-eight.ensures, c.before.before.before.before.before.before.of-eight.ensures, eight_set_lem a.d.settled a.p.asset _ p.asset)
 
 pub settled-spec : {M : Type 1} → statement M
 settled-spec =

@@ -4,10 +4,10 @@ use borrow.Author.Tests.{not-true, not-false}
 use Rattle.rules.specs.declared.calls.Call.{Call}
 use Rattle.rules.specs.declared.answers.Answer.{Answer}
 use Rattle.rules.specs.declared.answers.Refusal.{Refusal}
-use Rattle.rules.specs.Tables.{recordShape}
+use Rattle.rules.specs.Tables.{record_shape}
 use Rattle.rules.specs.State.{Book, view}
 use Rattle.rules.specs.Replies.{told, plain}
-use Rattle.rules.specs.Answer.{bookOf, frameTest, replyNumber}
+use Rattle.rules.specs.Answer.{book_of, frame_test, reply_number}
 use Rattle.rules.specs.Facts.{Accepted}
 use Rattle.rules.proofs.Laying.{length-rows}
 use Rattle.desk.proofs.Books.{frame-told, refuses, accepts}
@@ -18,15 +18,15 @@ use Rattle.outbox.proofs.withdraw.Tie as tie
 
 -- the book that came
 book : tie.Start → Book
-book c = bookOf c.args.t1 c.args.inbox.now c.args.outbox.now c.args.history.now
+book c = book_of c.args.t1 c.args.inbox.now c.args.outbox.now c.args.history.now
 
 -- the reply is the rules': the frame's test, and then the table's, which read what the book has
-replied : (c : tie.After-refuse) → told c.refuse.result ≡ plain (replyNumber (book c.before.before.before.before.before.before.before.before.before.before) (Call.Withdraw c.before.before.before.before.before.before.before.before.before.before.args.w))
-unfolding book frameTest view
+replied : (c : tie.After-refuse) → told c.refuse.result ≡ plain (reply_number (book c.before.before.before.before.before.before.before.before.before.before) (Call.Withdraw c.before.before.before.before.before.before.before.before.before.before.args.w))
+unfolding book frame_test view
 replied c =
     let b : Book = book c.before.before.before.before.before.before.before.before.before.before in
     frame-told b (Call.Withdraw c.before.before.before.before.before.before.before.before.before.before.args.w) c.refuse.result c.before.withdraw-reply.result refl
-    (λ f. c.before.withdraw-reply.ensures (view b) refl (payments-count b) (length-rows recordShape b.desk.counts.records b.history))
+    (λ f. c.before.withdraw-reply.ensures (view b) refl (payments-count b) (length-rows record_shape b.desk.counts.records b.history))
     (c.refuse.ensures ∙ ap (λ (t : Bool). cond (not t) (Answer.Refused Refusal.BadBook) c.before.withdraw-reply.result) c.before.before.before.before.framed.ensures)
 
 -- past the test the call is accepted

@@ -3,23 +3,23 @@ use Rattle.rules.specs.declared.calls.Call.{Call}
 use Rattle.rules.specs.declared.answers.Answer.{Answer}
 use Rattle.rules.specs.State.{Book}
 use Rattle.rules.specs.Replies.{told}
-use Rattle.rules.specs.Answer.{bookOf, doneAnswer, pieces_of}
+use Rattle.rules.specs.Answer.{book_of, done_answer, pieces_of}
 use Rattle.rules.proofs.Accepts.{accepted-frame}
 use Rattle.rules.proofs.Books.{framed}
 use Rattle.desk.proofs.Books.{lays}
 use Rattle.outbox.specs.After.{CanWithdraw}
-use Rattle.outbox.proofs.Laws.{can-withdraw, withdraw-laid}
+use Rattle.outbox.proofs.Laws.{can_withdraw, withdraw-laid}
 use borrow.Author.Rules.{rules}
 use Rattle.outbox.proofs.withdraw_done.Statement.{statement}
 use Rattle.outbox.proofs.withdraw_done.Tie as tie
 
 -- the book that came
 book : tie.Start → Book
-book c = bookOf c.args.d c.args.inbox.now c.args.outbox.now c.args.history.now
+book c = book_of c.args.d c.args.inbox.now c.args.outbox.now c.args.history.now
 
 can : (c : tie.Start) → CanWithdraw c.args.d c.args.w
 unfolding book
-can c = can-withdraw (book c) c.args.w c.requires
+can c = can_withdraw (book c) c.args.w c.requires
 
 put-payment-requires : tie.Need-put-payment-requires
 put-payment-requires c κs = search rules
@@ -40,7 +40,7 @@ same-length-2 : tie.Need-same-length-2
 same-length-2 c = search rules
 
 returns : tie.Need-returns
-unfolding book told doneAnswer pieces_of
+unfolding book told done_answer pieces_of
 returns c =
     let s : tie.Start = c.before.before.before.before.before.before.before.before.before.before.before.before.before.before.before in
     let b : Book = book s in

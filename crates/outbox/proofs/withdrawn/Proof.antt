@@ -1,6 +1,6 @@
 use Rattle.rules.specs.Effects.{debit}
 use Rattle.desk.proofs.Books.{balance-set}
-use Rattle.outbox.specs.After.{withdrawnDesk}
+use Rattle.outbox.specs.After.{withdrawn_desk}
 use borrow.Author.Rules.{rules}
 use Rattle.outbox.proofs.withdrawn.Statement.{statement}
 use Rattle.outbox.proofs.withdrawn.Tie as tie
@@ -24,7 +24,7 @@ add-counts-2 : tie.Need-overflow-add-counts-2
 add-counts-2 c = search rules
 
 returns : tie.Need-returns
-unfolding withdrawnDesk debit
+unfolding withdrawn_desk debit
 returns c =
     let a = c.before.before.before.before.before.before.before.before.before.before.before.args in
     let p = c.before.before.before.before.before.before.before.before.before.before.before.requires in

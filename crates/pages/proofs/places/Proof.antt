@@ -4,7 +4,7 @@ use mathlib.Core.Path.{◌≡◌}
 use native.Mathlib.Omega.{arith}
 use lib.ListN.{length}
 use Rattle.rules.specs.Lines.{decimal}
-use Rattle.pages.proofs.PageLaws.{length-short, length_two, length-pair, length_most}
+use Rattle.pages.proofs.PageLaws.{length-short, length_two, length_pair, length_most}
 use borrow.Author.Rules.{rules}
 use Rattle.pages.proofs.places.Statement.{statement}
 use Rattle.pages.proofs.places.Tie as tie
@@ -26,7 +26,7 @@ loop-less c = search rules
 
 loop-again : tie.Need-loop-preserved invariant-loop decreases-loop
 loop-again c =
-    let d = length-pair c.before.loop.rest c.loop-test.true (omega (arith, c.before.before.ranges.n)) in
+    let d = length_pair c.before.loop.rest c.loop-test.true (omega (arith, c.before.before.ranges.n)) in
     (search rules, omega arith)
 
 add-result : tie.Need-overflow-add-result invariant-loop decreases-loop

@@ -1,5 +1,5 @@
 -- `put_byte`: with room the byte is stored; without, storing changes nothing.
-use Rattle.pages.proofs.PageLaws.{byte-room, byte-none}
+use Rattle.pages.proofs.PageLaws.{byte_room, byte_none}
 use borrow.Author.Rules.{rules}
 use Rattle.pages.proofs.put_byte.Statement.{statement}
 use Rattle.pages.proofs.put_byte.Tie as tie
@@ -14,10 +14,10 @@ same_length : tie.Need-same-length
 same_length c = search rules
 
 returns : tie.Need-returns
-returns c = byte-room c.before.args.out.now c.before.args.at c.before.args.b c.if1.true
+returns c = byte_room c.before.args.out.now c.before.args.at c.before.args.b c.if1.true
 
 returns-2 : tie.Need-returns-2
-returns-2 c = byte-none c.before.args.out.now c.before.args.at c.before.args.b c.if1.false
+returns-2 c = byte_none c.before.args.out.now c.before.args.at c.before.args.b c.if1.false
 
 pub put-byte-spec : {M : Type 1} → statement M
 put-byte-spec = tie.close (tie.spec slice-write-out add-result same_length returns returns-2)

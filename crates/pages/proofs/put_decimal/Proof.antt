@@ -6,7 +6,7 @@ use native.Mathlib.Omega.{arith}
 use lib.ListN.{length}
 use Rattle.rules.specs.Lines.{decimal}
 use Rattle.pages.specs.Writing.{page, put}
-use Rattle.pages.proofs.PageLaws.{decimal-short, length_most, put-laid, laid-front}
+use Rattle.pages.proofs.PageLaws.{decimal-short, length_most, put-laid, laid_front}
 use borrow.Author.Rules.{rules}
 use Rattle.pages.proofs.put_decimal.Statement.{statement}
 use Rattle.pages.proofs.put_decimal.Tie as tie
@@ -58,7 +58,7 @@ array-share-prefix-text : tie.Need-array-share-prefix-text
 array-share-prefix-text c = omega (arith, c.before.before.before.before.before.places.ensures, length_most c.before.before.before.before.before.before.before.before.args.n (omega (arith, c.before.before.before.before.before.before.before.before.ranges.n)))
 
 slice-aggregate-put-bytes : tie.Need-slice-aggregate-put-bytes
-slice-aggregate-put-bytes c = c.before.before.before.before.before.before.places.ensures ∙ ap (λ (l : List ℕ). length l) (sym (laid-front _ (decimal c.before.before.before.before.before.before.before.before.before.args.n) c.before.before.before.spell2.ensures c.before.before.before.before.before.before.places.ensures))
+slice-aggregate-put-bytes c = c.before.before.before.before.before.before.places.ensures ∙ ap (λ (l : List ℕ). length l) (sym (laid_front _ (decimal c.before.before.before.before.before.before.before.before.before.args.n) c.before.before.before.spell2.ensures c.before.before.before.before.before.before.places.ensures))
 
 put-bytes-requires : tie.Need-put-bytes-requires
 put-bytes-requires c κs = search rules
@@ -69,7 +69,7 @@ same-length-3 c = search rules
 returns-3 : tie.Need-returns-3
 returns-3 c =
     let a = c.before.before.before.before.before.before.before.before.before.before.before.before.args in
-    c.before.before.put-bytes.ensures ∙ ap (put (page a.out.now a.at)) (laid-front _ (decimal a.n) c.before.before.before.before.before.before.spell2.ensures c.before.before.before.before.before.before.before.before.before.places.ensures)
+    c.before.before.put-bytes.ensures ∙ ap (put (page a.out.now a.at)) (laid_front _ (decimal a.n) c.before.before.before.before.before.before.spell2.ensures c.before.before.before.before.before.before.before.before.before.places.ensures)
 
 pub put-decimal-spec : {M : Type 1} → statement M
 put-decimal-spec =

@@ -4,10 +4,10 @@ use mathlib.Core.Path.{◌≡◌, sym, ◌∙◌}
 use mathlib.Core.List.{◌++◌}
 use native.Mathlib.Omega.{arith}
 use lib.ListN.{length, take, drop, length-set}
-use Rattle.rules.specs.Limits.{highestField}
+use Rattle.rules.specs.Limits.{highest_field}
 use Rattle.rules.specs.Lines.{decimal}
 use Rattle.pages.specs.Writing.{laid}
-use Rattle.pages.proofs.PageLaws.{length-short, length-long, laid-digit, laid-last}
+use Rattle.pages.proofs.PageLaws.{length-short, length_long, laid_digit, laid-last}
 use borrow.Author.Rules.{rules}
 use Rattle.pages.proofs.spell.Statement.{statement}
 use Rattle.pages.proofs.spell.Tie as tie
@@ -25,7 +25,7 @@ loop-holds : tie.Need-loop-init invariant-loop decreases-loop
 loop-holds c = (search rules, search rules, search rules, search rules, rw (sym c.requires.0))
 
 sub-p : tie.Need-overflow-sub-p invariant-loop decreases-loop
-sub-p c = omega (arith, length-long c.before.loop.rest c.loop-test.true (omega (arith, c.before.before.ranges.n)))
+sub-p c = omega (arith, length_long c.before.loop.rest c.loop-test.true (omega (arith, c.before.before.ranges.n)))
 
 cast-out : tie.Need-overflow-cast-out invariant-loop decreases-loop
 cast-out c = search rules
@@ -34,7 +34,7 @@ add-out : tie.Need-overflow-add-out invariant-loop decreases-loop
 add-out c = search rules
 
 slice-write-out : tie.Need-slice-write-out invariant-loop decreases-loop
-slice-write-out c = omega (arith, length-long c.before.loop.rest c.loop-test.true (omega (arith, c.before.before.ranges.n)))
+slice-write-out c = omega (arith, length_long c.before.loop.rest c.loop-test.true (omega (arith, c.before.before.ranges.n)))
 
 loop-less : tie.Need-loop-smaller invariant-loop decreases-loop
 loop-less c = search rules
@@ -43,9 +43,9 @@ loop-again : tie.Need-loop-preserved invariant-loop decreases-loop
 loop-again c =
     let l = c.before.loop in
     let a = c.before.before.args in
-    let m : l.rest ≤ highestField = omega (arith, c.before.before.ranges.n) in
-    let d = length-long l.rest c.loop-test.true m in
-    (search rules, length-set l.out (l.p - 1) (48 + l.rest % 10) ∙ l.invariant.1, omega arith, rw length-set (omega arith), l.invariant.4 ∙ sym (laid-digit l.out a.at l.p l.rest l.invariant.2 l.invariant.3 c.loop-test.true m))
+    let m : l.rest ≤ highest_field = omega (arith, c.before.before.ranges.n) in
+    let d = length_long l.rest c.loop-test.true m in
+    (search rules, length-set l.out (l.p - 1) (48 + l.rest % 10) ∙ l.invariant.1, omega arith, rw length-set (omega arith), l.invariant.4 ∙ sym (laid_digit l.out a.at l.p l.rest l.invariant.2 l.invariant.3 c.loop-test.true m))
 
 cast-out-2 : tie.Need-overflow-cast-out-2 invariant-loop decreases-loop
 cast-out-2 c = search rules

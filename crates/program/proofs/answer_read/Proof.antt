@@ -5,10 +5,10 @@ use native.Mathlib.Omega.{arith}
 use lib.ListN.{length, take}
 use lib.Seq.{length-take-le, take_all}
 use Rattle.fields.proofs.FieldLaws.{from_on}
-use Rattle.runner.proofs.Parts.{rest-length, part-more}
+use Rattle.runner.proofs.Parts.{rest_length, part_more}
 use Rattle.runner.proofs.Feeds.{none-fed}
 use Rattle.runner.specs.Machine.{Machine, feeds}
-use Rattle.runner.specs.Feeding.{fedMachine, Ready}
+use Rattle.runner.specs.Feeding.{fed_machine, Ready}
 use borrow.Author.Rules.{rules}
 use Rattle.program.proofs.answer_read.Statement.{statement}
 use Rattle.program.proofs.answer_read.Tie as tie
@@ -18,7 +18,7 @@ invariant-loop inbox₀ outbox₀ history₀ hold₀ chunk out₀ g₀ from₀ i
     (from ≤ length chunk)
     × Ready g hold
     × (g.at ≡ 0)
-    × (fedMachine g inbox outbox history hold ≡ feeds (fedMachine g₀ inbox₀ outbox₀ history₀ hold₀) (take from chunk))
+    × (fed_machine g inbox outbox history hold ≡ feeds (fed_machine g₀ inbox₀ outbox₀ history₀ hold₀) (take from chunk))
     × (length inbox ≡ length inbox₀)
     × (length outbox ≡ length outbox₀)
     × (length history ≡ length history₀)
@@ -31,7 +31,7 @@ decreases-loop inbox₀ outbox₀ history₀ hold₀ chunk out₀ g₀ from₀ i
 loop-holds : tie.Need-loop-init invariant-loop decreases-loop
 loop-holds c =
     let a = c.before.before.before.before.before.before.args in
-    (omega arith, c.before.before.before.before.before.before.requires.0, c.before.before.before.before.before.before.requires.1.0, none-fed (fedMachine a.f a.inbox.now a.outbox.now a.history.now a.hold.now) a.chunk.now, refl, refl, refl, refl, refl)
+    (omega arith, c.before.before.before.before.before.before.requires.0, c.before.before.before.before.before.before.requires.1.0, none-fed (fed_machine a.f a.inbox.now a.outbox.now a.history.now a.hold.now) a.chunk.now, refl, refl, refl, refl, refl)
 
 sub-run-some : tie.Need-overflow-sub-run-some invariant-loop decreases-loop
 sub-run-some c = search rules
@@ -49,7 +49,7 @@ add-from : tie.Need-overflow-add-from invariant-loop decreases-loop
 add-from c =
     let first = c.before.before.before.before.before.before.before.before.before.before.before.before.before.before.before.before.before.before.before.before.before.before.before.before.before.before.before.before in
     let here : c.before.before.before.before.before.before.before.before.before.before.before.before.before.before.before.before.before.before.before.before.before.loop.from < length c.before.before.before.before.before.before.before.before.before.before.before.before.before.before.before.before.before.before.before.before.before.before.before.before.before.before.before.before.args.chunk.now = c.before.before.before.before.before.before.before.before.before.before.before.before.before.before.before.before.before.before.before.before.loop-test.true in
-    let rest = rest-length c.before.before.before.before.before.before.before.before.before.before.before.before.before.before.before.before.before.before.before.before.before.before.before.before.before.before.before.before.args.chunk.now c.before.before.before.before.before.before.before.before.before.before.before.before.before.before.before.before.before.before.before.before.before.loop.from (from_on c.before.before.before.before.before.before.before.before.before.before.before.before.before.before.before.before.before.before.before.before.before.before.before.before.before.before.before.before.args.chunk.now c.before.before.before.before.before.before.before.before.before.before.before.before.before.before.before.before.before.before.before.before.before.loop.from) in
+    let rest = rest_length c.before.before.before.before.before.before.before.before.before.before.before.before.before.before.before.before.before.before.before.before.before.before.before.before.before.before.before.before.args.chunk.now c.before.before.before.before.before.before.before.before.before.before.before.before.before.before.before.before.before.before.before.before.before.loop.from (from_on c.before.before.before.before.before.before.before.before.before.before.before.before.before.before.before.before.before.before.before.before.before.before.before.before.before.before.before.before.args.chunk.now c.before.before.before.before.before.before.before.before.before.before.before.before.before.before.before.before.before.before.before.before.before.loop.from) in
     let part = c.before.before.before.before.before.before.before.before.before.before.before.before.before.run-some.ensures.moves.within in
     omega arith
 
@@ -86,7 +86,7 @@ loop-less : tie.Need-loop-smaller invariant-loop decreases-loop
 loop-less c =
     let v = c.before.before.before.before.before.before.before.before.before.before.before.before.before.before.before.before.before.before.before.before.before.before.before.before.loop in
     let here : v.from < length c.before.before.before.before.before.before.before.before.before.before.before.before.before.before.before.before.before.before.before.before.before.before.before.before.before.before.before.before.before.before.before.args.chunk.now = c.before.before.before.before.before.before.before.before.before.before.before.before.before.before.before.before.before.before.before.before.before.before.before.loop-test.true in
-    let rest = rest-length c.before.before.before.before.before.before.before.before.before.before.before.before.before.before.before.before.before.before.before.before.before.before.before.before.before.before.before.before.before.before.before.args.chunk.now v.from (from_on c.before.before.before.before.before.before.before.before.before.before.before.before.before.before.before.before.before.before.before.before.before.before.before.before.before.before.before.before.before.before.before.args.chunk.now v.from) in
+    let rest = rest_length c.before.before.before.before.before.before.before.before.before.before.before.before.before.before.before.before.before.before.before.before.before.before.before.before.before.before.before.before.before.before.before.args.chunk.now v.from (from_on c.before.before.before.before.before.before.before.before.before.before.before.before.before.before.before.before.before.before.before.before.before.before.before.before.before.before.before.before.before.before.before.args.chunk.now v.from) in
     let some = c.before.before.before.before.before.before.before.before.before.before.before.before.before.before.before.before.run-some.ensures.moves.some (omega (arith, here, rest)) (omega (arith, v.invariant.2, v.invariant.8, c.before.before.before.before.before.before.before.before.before.before.before.before.before.before.before.before.before.before.before.before.before.before.before.before.before.before.before.before.before.before.before.requires.1.1)) in
     omega (arith, here, some)
 
@@ -96,11 +96,11 @@ loop-again c =
     let v = c.before.before.before.before.before.before.before.before.before.before.before.before.before.before.before.before.before.before.before.before.before.before.before.before.loop in
     let here : v.from < length a.chunk.now = c.before.before.before.before.before.before.before.before.before.before.before.before.before.before.before.before.before.before.before.before.before.before.before.loop-test.true in
     let tail = from_on a.chunk.now v.from in
-    let rest = rest-length a.chunk.now v.from tail in
+    let rest = rest_length a.chunk.now v.from tail in
     let r = c.before.before.before.before.before.before.before.before.before.before.before.before.before.before.before.before.run-some in
     let within = r.ensures.moves.within in
-    let m : Machine = fedMachine a.f a.inbox.now a.outbox.now a.history.now a.hold.now in
-    (omega (arith, here, rest, within), record { counted = r.ensures.ready.counted; held = r.ensures.ready.held; size = r.ensures.ready.size }, refl, part-more m a.chunk.now v.from r.result.next tail v.invariant.3 r.ensures.machine, search rules, search rules, search rules, search rules, search rules)
+    let m : Machine = fed_machine a.f a.inbox.now a.outbox.now a.history.now a.hold.now in
+    (omega (arith, here, rest, within), record { counted = r.ensures.ready.counted; held = r.ensures.ready.held; size = r.ensures.ready.size }, refl, part_more m a.chunk.now v.from r.result.next tail v.invariant.3 r.ensures.machine, search rules, search rules, search rules, search rules, search rules)
 
 same-length-6 : tie.Need-same-length-6 invariant-loop decreases-loop
 same-length-6 c = search rules
@@ -122,7 +122,7 @@ returns-2 c =
     let a = c.before.before.before.before.before.before.before.before.before.before.args in
     let v = c.before.before.before.loop in
     let all : length a.chunk.now ≤ v.from = c.before.before.loop-test.false in
-    let m : Machine = fedMachine a.f a.inbox.now a.outbox.now a.history.now a.hold.now in
+    let m : Machine = fed_machine a.f a.inbox.now a.outbox.now a.history.now a.hold.now in
     (v.invariant.1, (v.invariant.2, record { fed = λ e. v.invariant.3 ∙ ap (feeds m) (take_all v.from a.chunk.now all); more = λ e. refl }))
 
 pub answer-read-spec : {M : Type 1} → statement M

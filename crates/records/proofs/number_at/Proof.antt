@@ -3,13 +3,13 @@ use Prim.Native.Nat.{◌+◌, ◌*◌}
 use mathlib.Core.Path.{sym}
 use native.Mathlib.Omega.{arith}
 use lib.ListN.{get_or-eq_default}
-use Rattle.rules.specs.Tables.{recordShape}
+use Rattle.rules.specs.Tables.{record_shape}
 use borrow.Author.Rules.{rules}
 use Rattle.records.proofs.number_at.Statement.{statement}
 use Rattle.records.proofs.number_at.Tie as tie
 
 returns : tie.Need-returns
-returns c = sym (get_or-eq_default c.before.args.history.now 0 {n = c.before.args.i * recordShape.width + c.before.args.k} (omega (arith, c.if1.true)))
+returns c = sym (get_or-eq_default c.before.args.history.now 0 {n = c.before.args.i * record_shape.width + c.before.args.k} (omega (arith, c.if1.true)))
 
 mul_at : tie.Need-overflow-mul-at
 mul_at c = search rules
@@ -18,7 +18,7 @@ sub-if2 : tie.Need-overflow-sub-if2
 sub-if2 c = search rules
 
 returns-2 : tie.Need-returns-2
-returns-2 c = sym (get_or-eq_default c.before.before.args.history.now 0 {n = c.before.before.args.i * recordShape.width + c.before.before.args.k} (omega (arith, c.before.if1.false, c.if2.true)))
+returns-2 c = sym (get_or-eq_default c.before.before.args.history.now 0 {n = c.before.before.args.i * record_shape.width + c.before.before.args.k} (omega (arith, c.before.if1.false, c.if2.true)))
 
 add-result : tie.Need-overflow-add-result
 add-result c = search rules

@@ -1,6 +1,6 @@
 -- `record_at`: a row that lies within the table is read there; of any other each number is asked for.
 use lib.Dec.{lit<}
-use Rattle.rules.specs.Tables.{recordShape}
+use Rattle.rules.specs.Tables.{record_shape}
 use Rattle.tables.proofs.Rest.{cell, cell0}
 use borrow.Author.Rules.{rules}
 use Rattle.records.proofs.record_at.Statement.{statement}
@@ -55,7 +55,7 @@ returns : tie.Need-returns
 returns c =
     let t = c.before.before.before.before.before.before.before.args.history.now in
     let i = c.before.before.before.before.before.before.before.args.i in
-    let w = recordShape.width in
+    let w = record_shape.width in
     rw (cell0 w i t (lit< tt), cell w i 1 t (lit< tt), cell w i 2 t (lit< tt), cell w i 3 t (lit< tt), cell w i 4 t (lit< tt))
 
 number-at-requires : tie.Need-number-at-requires
@@ -77,7 +77,7 @@ returns-2 : tie.Need-returns-2
 returns-2 c =
     let t = c.before.before.before.before.before.before.before.args.history.now in
     let i = c.before.before.before.before.before.before.before.args.i in
-    let w = recordShape.width in
+    let w = record_shape.width in
     rw (cell w i 0 t (lit< tt), cell w i 1 t (lit< tt), cell w i 2 t (lit< tt), cell w i 3 t (lit< tt), cell w i 4 t (lit< tt), c.before.before.before.before.number_at.ensures, c.before.before.before.number-at2.ensures, c.before.before.number-at3.ensures, c.before.number-at4.ensures, c.number-at5.ensures)
 
 pub record-at-spec : {M : Type 1} → statement M

@@ -1,4 +1,4 @@
-use Rattle.refusals.specs.Said.{isSign}
+use Rattle.refusals.specs.Said.{is_sign}
 use borrow.Author.Rules.{rules}
 use Rattle.refusals.proofs.is_sign.Statement.{statement}
 use Rattle.refusals.proofs.is_sign.Tie as tie
@@ -31,39 +31,39 @@ enum-told-9 : tie.Need-enum-told-9
 enum-told-9 c = search rules
 
 returns : tie.Need-returns
-unfolding isSign
+unfolding is_sign
 returns c = rw c.enum_told.given.1
 
 returns-2 : tie.Need-returns-2
-unfolding isSign
+unfolding is_sign
 returns-2 c = rw c.enum-told2.given.1
 
 returns-3 : tie.Need-returns-3
-unfolding isSign
+unfolding is_sign
 returns-3 c = rw c.enum-told3.given.1
 
 returns-4 : tie.Need-returns-4
-unfolding isSign
+unfolding is_sign
 returns-4 c = rw c.enum-told4.given.1
 
 returns-5 : tie.Need-returns-5
-unfolding isSign
+unfolding is_sign
 returns-5 c = rw c.enum-told5.given.1
 
 returns-6 : tie.Need-returns-6
-unfolding isSign
+unfolding is_sign
 returns-6 c = rw c.enum-told6.given.1
 
 returns-7 : tie.Need-returns-7
-unfolding isSign
+unfolding is_sign
 returns-7 c = rw c.enum-told7.given.1
 
 returns-8 : tie.Need-returns-8
-unfolding isSign
+unfolding is_sign
 returns-8 c = rw c.enum-told8.given.1
 
 returns-9 : tie.Need-returns-9
-unfolding isSign
+unfolding is_sign
 returns-9 c = rw c.enum-told9.given.1
 
 pub is-sign-spec : {M : Type 1} → statement M

@@ -1,4 +1,4 @@
-use Rattle.refusals.specs.Said.{saysAll}
+use Rattle.refusals.specs.Said.{says_all}
 use borrow.Author.Rules.{rules}
 use Rattle.refusals.proofs.says_all.Statement.{statement}
 use Rattle.refusals.proofs.says_all.Tie as tie
@@ -10,7 +10,7 @@ is-sign-requires : tie.Need-is-sign-requires
 is-sign-requires c κs = search rules
 
 returns : tie.Need-returns
-unfolding saysAll
+unfolding says_all
 returns c = rw (c.is-sign.ensures, c.before.is-done.ensures)
 
 pub says-all-spec : {M : Type 1} → statement M

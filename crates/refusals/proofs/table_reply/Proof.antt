@@ -2,14 +2,14 @@ use mathlib.Core.Path.{refl, sym, ap, ◌∙◌}
 use mathlib.Core.List.{List}
 use Prim.Native.Nat.{ℕ}
 use Rattle.rules.specs.declared.rows.Payment.{Payment}
-use Rattle.rules.specs.Tables.{depositShape, recordShape}
+use Rattle.rules.specs.Tables.{deposit_shape, record_shape}
 use Rattle.rules.specs.State.{Book, view}
-use Rattle.rules.specs.Answer.{bookOf, frameTest}
+use Rattle.rules.specs.Answer.{book_of, frame_test}
 use Rattle.rules.proofs.Laying.{length-rows}
-use Rattle.rules.proofs.Books.{framed, flight-count}
-use Rattle.desk.specs.Kept.{deskWith}
-use Rattle.inbox.proofs.Laws.{waits-is}
-use Rattle.outbox.proofs.Laws.{payments-count, waiting-count, flight-row}
+use Rattle.rules.proofs.Books.{framed, flight_count}
+use Rattle.desk.specs.Kept.{desk_with}
+use Rattle.inbox.proofs.Laws.{waits_is}
+use Rattle.outbox.proofs.Laws.{payments-count, waiting-count, flight_row}
 use Rattle.refusals.proofs.Framing.{framed-told, framed-traced}
 use borrow.Author.Rules.{rules}
 use Rattle.refusals.proofs.table_reply.Statement.{statement}
@@ -17,7 +17,7 @@ use Rattle.refusals.proofs.table_reply.Tie as tie
 
 -- a book that has these parts, and these settled totals, which no table reads
 book : tie.Start → List ℕ → Book
-book c settled = bookOf (deskWith c.args.balances.now c.args.holders.now c.args.lifetime.now settled c.args.counts) c.args.inbox.now c.args.outbox.now c.args.history.now
+book c settled = book_of (desk_with c.args.balances.now c.args.holders.now c.args.lifetime.now settled c.args.counts) c.args.inbox.now c.args.outbox.now c.args.history.now
 
 enum-known-c : tie.Need-enum-known-c
 enum-known-c c = search rules
@@ -83,49 +83,49 @@ history-reply-requires : tie.Need-history-reply-requires
 history-reply-requires c κs = search rules
 
 returns : tie.Need-returns
-unfolding book frameTest view
+unfolding book frame_test view
 returns c = λ settled f.
     let b : Book = book c.before.before.before.before.before.before.before.before settled in
-    rw c.before.before.before.c.given.1 (framed-told b _ _ refl f (c.deposit-reply.ensures (view b) refl refl (length-rows depositShape b.desk.counts.unclaimed b.inbox)))
+    rw c.before.before.before.c.given.1 (framed-told b _ _ refl f (c.deposit-reply.ensures (view b) refl refl (length-rows deposit_shape b.desk.counts.unclaimed b.inbox)))
 
 returns-2 : tie.Need-returns-2
-unfolding book frameTest view
+unfolding book frame_test view
 returns-2 c = λ settled f.
     let b : Book = book c.before.before.before.before.before.before.before.before settled in
-    rw c.before.before.before.c2.given.1 (framed-told b _ _ refl f (c.claim-reply.ensures (view b) (waits-is b _ (framed b f) ∙ sym c.before.is-unclaimed.ensures) (length-rows recordShape b.desk.counts.records b.history)))
+    rw c.before.before.before.c2.given.1 (framed-told b _ _ refl f (c.claim-reply.ensures (view b) (waits_is b _ (framed b f) ∙ sym c.before.is-unclaimed.ensures) (length-rows record_shape b.desk.counts.records b.history)))
 
 returns-3 : tie.Need-returns-3
-unfolding book frameTest view
+unfolding book frame_test view
 returns-3 c = λ settled f.
     let b : Book = book c.before.before.before.before.before.before.before settled in
-    rw c.before.before.c3.given.1 (framed-told b _ _ refl f (c.transfer-reply.ensures (view b) refl (length-rows recordShape b.desk.counts.records b.history)))
+    rw c.before.before.c3.given.1 (framed-told b _ _ refl f (c.transfer-reply.ensures (view b) refl (length-rows record_shape b.desk.counts.records b.history)))
 
 returns-4 : tie.Need-returns-4
-unfolding book frameTest view
+unfolding book frame_test view
 returns-4 c = λ settled f.
     let b : Book = book c.before.before.before.before.before.before.before settled in
-    rw c.before.before.c4.given.1 (framed-told b _ _ refl f (c.withdraw-reply.ensures (view b) refl (payments-count b) (length-rows recordShape b.desk.counts.records b.history)))
+    rw c.before.before.c4.given.1 (framed-told b _ _ refl f (c.withdraw-reply.ensures (view b) refl (payments-count b) (length-rows record_shape b.desk.counts.records b.history)))
 
 returns-5 : tie.Need-returns-5
-unfolding book frameTest view
+unfolding book frame_test view
 returns-5 c = λ settled f.
     let b : Book = book c.before.before.before.before.before.before.before settled in
     rw c.before.before.enum_told.given.1 (framed-told b _ _ refl f (c.send-reply.ensures (view b) (waiting-count b ∙ sym c.before.count-waiting.ensures)))
 
 returns-6 : tie.Need-returns-6
-unfolding book frameTest view
+unfolding book frame_test view
 returns-6 c = λ settled f.
     let b : Book = book c.before.before.before.before.before.before.before.before settled in
-    rw c.before.before.before.c5.given.1 (framed-told b _ _ refl f (c.settle-reply.ensures (view b) (flight-count b (framed b f)) (λ h. ap (λ (p : Payment). p.nonce) (flight-row b (framed b f) h) ∙ sym c.before.first-nonce.ensures)))
+    rw c.before.before.before.c5.given.1 (framed-told b _ _ refl f (c.settle-reply.ensures (view b) (flight_count b (framed b f)) (λ h. ap (λ (p : Payment). p.nonce) (flight_row b (framed b f) h) ∙ sym c.before.first-nonce.ensures)))
 
 returns-7 : tie.Need-returns-7
-unfolding book frameTest view
+unfolding book frame_test view
 returns-7 c = λ settled f.
     let b : Book = book c.before.before.before.before.before.before.before settled in
-    rw c.before.before.c6.given.1 (framed-told b _ _ refl f (c.grant-reply.ensures (view b) refl (length-rows recordShape b.desk.counts.records b.history)))
+    rw c.before.before.c6.given.1 (framed-told b _ _ refl f (c.grant-reply.ensures (view b) refl (length-rows record_shape b.desk.counts.records b.history)))
 
 returns-8 : tie.Need-returns-8
-unfolding book frameTest view
+unfolding book frame_test view
 returns-8 c = λ settled f.
     let b : Book = book c.before.before.before.before.before.before.before settled in
     rw c.before.before.c7.given.1 (framed-told b _ _ refl f (c.sign-reply.ensures (view b) refl))

@@ -4,7 +4,7 @@ use mathlib.Core.Bool.{◌&&◌}
 use native.Mathlib.Omega.{arith}
 use lib.Dec.{eqb}
 use Rattle.rules.specs.declared.rows.Record.{Record}
-use Rattle.replays.proofs.Payments.{PaymentFrom, payment-none, payment-here, payment-goes, payment-end}
+use Rattle.replays.proofs.Payments.{PaymentFrom, payment-none, payment-here, payment_goes, payment_end}
 use borrow.Author.Rules.{rules}
 use Rattle.replays.proofs.payment_at.Statement.{statement}
 use Rattle.replays.proofs.payment_at.Tie as tie
@@ -40,13 +40,13 @@ loop-again : tie.Need-loop-preserved invariant-loop decreases-loop
 loop-again c =
     let l = c.before.before.before.before.before.loop in
     let a = c.before.before.before.before.before.before.before.args in
-    (search rules, rw (c.one_less.ensures, c.before.before.before.record-at.ensures) (payment-goes a.history.now a.records a.n l.left l.i (omega arith) l.invariant.1 (ap (λ (r : Record). eqb r.kind 3 && eqb l.left 0) (sym c.before.before.before.record-at.ensures) ∙ c.before.if1.false)))
+    (search rules, rw (c.one_less.ensures, c.before.before.before.record-at.ensures) (payment_goes a.history.now a.records a.n l.left l.i (omega arith) l.invariant.1 (ap (λ (r : Record). eqb r.kind 3 && eqb l.left 0) (sym c.before.before.before.record-at.ensures) ∙ c.before.if1.false)))
 
 returns-2 : tie.Need-returns-2 invariant-loop decreases-loop
 returns-2 c =
     let l = c.before.loop in
     let a = c.before.before.before.args in
-    payment-end a.history.now a.records a.n l.left l.i (omega arith) l.invariant.1
+    payment_end a.history.now a.records a.n l.left l.i (omega arith) l.invariant.1
 
 pub payment-at-spec : {M : Type 1} → statement M
 payment-at-spec =

@@ -37,7 +37,7 @@ use denote.Triple.Table.{entered, cited}
 use denote.Triple.Walked.{says, needs, Stays, stay_slice, stay_none, walk_of, Walks, ends_at, walked, Goes-slice, Goes-none, walk_Meets}
 use Rattle.rules.specs.declared.rows.Lot.{Lot}
 use Rattle.rules.specs.declared.rows.Record.{Record}
-use Rattle.rules.specs.Lots.{lotOf}
+use Rattle.rules.specs.Lots.{lot_of}
 use Rattle.rules.specs.contracts.rows.Lot as T
 use Rattle.rules.proofs.rows.Lot.TheLaws as T'
 use Rattle.rules.specs.contracts.rows.DepositNumber as Dn
@@ -47,12 +47,12 @@ use Rattle.rules.proofs.rows.Record.TheLaws as Rc'
 use Rattle.replays.specs.Replaying.{CanReplay, Replays}
 use Rattle.takings.specs.contracts.work.Taking as Tk
 use Rattle.takings.proofs.work.Taking.TheLaws as Tk'
-use Rattle.records.proofs.KindNumbers.{is-claim, is-transfer, is-withdrawal, is-grant, is-other}
-use Rattle.replays.proofs.Replaying.{can-take, few-after, replays-claim, replays-transfer, replays-withdrawal, replays-grant, replays-other}
+use Rattle.records.proofs.KindNumbers.{is_claim_lem, is_transfer, is_withdrawal_lem, is_grant, is_other_lem}
+use Rattle.replays.proofs.Replaying.{can_take, few-after, replays-claim, replays-transfer, replays-withdrawal, replays-grant, replays-other}
 use Rattle.takings.proofs.Locals.{local, part, slice_at}
-use Rattle.takings.proofs.Values.{R, machOf, number_is, lot-is, Records, machR, at-list, sv, places}
+use Rattle.takings.proofs.Values.{R, mach_of, number_is, lot_is, Records, mach_r, at_list, sv, places}
 use Rattle.takings.proofs.LotCalls.{Append, appends}
-use Rattle.takings.proofs.TakingCalls.{TakeFrom, takes-from, Join, joins}
+use Rattle.takings.proofs.TakingCalls.{TakeFrom, takes_from, Join, joins}
 use Rattle.takings.proofs.rows.append.Symbol as append-def
 use Rattle.takings.proofs.rows.append.Symbol.{name as #append}
 use Rattle.takings.proofs.rows.append.Met as append-thm
@@ -82,10 +82,10 @@ both-fit : (kept taken : ℕ) {used : ℕ} → kept + taken ≤ used + 1 → use
 both-fit kept taken l h = omega arith
 
 -- ---- the lot that a claim puts is one
-claimed-is : (r : Record) → Is Records r (machR r ∷ []) → Is R (lotOf r) (machOf (lotOf r) ∷ [])
+claimed-is : (r : Record) → Is Records r (mach_r r ∷ []) → Is R (lot_of r) (mach_of (lot_of r) ∷ [])
 claimed-is r is =
     let of-r = LL.owed Rc.the_type Rc'.the_laws r _ is in
-    lot-is (lotOf r) of-r.1.1.1.0.1 of-r.1.0.1 of-r.1.1.1.1.0.1 of-r.1.1.0.1
+    lot_is (lot_of r) of-r.1.1.1.0.1 of-r.1.0.1 of-r.1.1.1.1.0.1 of-r.1.1.0.1
 
 module _ {M : Type 1} {𝓤 : Ura M} (𝓛 : Logic 𝓤) (mem : Memory → SProp 𝓤) (run : Routine → Fun 𝓤) (κwork : Lft) (κheld : Lft) (qwork : Share) (qheld : Share) (bwork owork : ℕ) (γwork : GName) (works : List Lot) (used : ℕ) (bheld oheld : ℕ) (γheld : GName) (helds : List Lot) (rec : Record) where
   open 𝓛 use {H}
@@ -97,17 +97,17 @@ module _ {M : Type 1} {𝓤 : Ura M} (𝓛 : Logic 𝓤) (mem : Memory → SProp
   nheld = length helds
 
   abbrev a : Arg
-  a = (at-list bwork owork γwork works, (used, (at-list bheld oheld γheld helds, (rec, tt))))
+  a = (at_list bwork owork γwork works, (used, (at_list bheld oheld γheld helds, (rec, tt))))
 
   abbrev at : List Val × (List Val × (List Val × (List Val × Unit {0})))
-  at = (sv bwork owork nwork ∷ [], (vint w64 used ∷ [], (sv bheld oheld nheld ∷ [], (machR rec ∷ [], tt))))
+  at = (sv bwork owork nwork ∷ [], (vint w64 used ∷ [], (sv bheld oheld nheld ∷ [], (mach_r rec ∷ [], tt))))
 
   abbrev Post : Val → SProp 𝓤
   Post = (walk_of 𝓛 f.ended stayed (f.clauses 𝓛 mem run)).post (((κwork, (κheld, tt)), (qwork, (qheld, tt)), tt, a, at), tt)
 
-  exits : used < 2 ^ 64 → Is Records rec (machR rec ∷ []) → (r : ℕ) → r < 2 ^ 64 → (workw : List Lot) → length workw ≡ nwork → (heldw : List Lot) → length heldw ≡ nheld → Replays rec used works r workw → ent 𝓤 (⋆ 𝓛 (‵ ((MutSlice (named 0) κwork R).own_val (at-list bwork owork γwork workw) (sv bwork owork nwork ∷ [])) ∷ ‵ (flft κwork qwork) ∷ ‵ ((MutSlice (named 0) κheld R).own_val (at-list bheld oheld γheld heldw) (sv bheld oheld nheld ∷ [])) ∷ ‵ (flft κheld qheld) ∷ [])) (Post (vint w64 r))
+  exits : used < 2 ^ 64 → Is Records rec (mach_r rec ∷ []) → (r : ℕ) → r < 2 ^ 64 → (workw : List Lot) → length workw ≡ nwork → (heldw : List Lot) → length heldw ≡ nheld → Replays rec used works r workw → ent 𝓤 (⋆ 𝓛 (‵ ((MutSlice (named 0) κwork R).own_val (at_list bwork owork γwork workw) (sv bwork owork nwork ∷ [])) ∷ ‵ (flft κwork qwork) ∷ ‵ ((MutSlice (named 0) κheld R).own_val (at_list bheld oheld γheld heldw) (sv bheld oheld nheld ∷ [])) ∷ ‵ (flft κheld qheld) ∷ [])) (Post (vint w64 r))
   exits isused isrec r isr workw lenwork heldw lenheld e =
-      qed 𝓛 (‵ ((MutSlice (named 0) κwork R).own_val (at-list bwork owork γwork workw) (sv bwork owork nwork ∷ [])) ∷ ‵ (flft κwork qwork) ∷ ‵ ((MutSlice (named 0) κheld R).own_val (at-list bheld oheld γheld heldw) (sv bheld oheld nheld ∷ [])) ∷ ‵ (flft κheld qheld) ∷ []) ∵
+      qed 𝓛 (‵ ((MutSlice (named 0) κwork R).own_val (at_list bwork owork γwork workw) (sv bwork owork nwork ∷ [])) ∷ ‵ (flft κwork qwork) ∷ ‵ ((MutSlice (named 0) κheld R).own_val (at_list bheld oheld γheld heldw) (sv bheld oheld nheld ∷ [])) ∷ ‵ (flft κheld qheld) ∷ []) ∵
       suffices ! _ (ends_at 𝓛 f.ended stayed (f.clauses 𝓛 mem run) (((κwork, (κheld, tt)), (qwork, (qheld, tt)), tt, a, at), tt) (vint w64 r) r (workw, (tt, (heldw, (tt, tt)))) (lenwork, (tt, (lenheld, (tt, tt))))) $ says ! e $
       nothing ! $ move ! (4 ∷ 0 ∷ []) $ join ! $ move ! (2 ∷ 0 ∷ []) $ join ! $ frame ! $ nothing ! $
       owned ! Records (Is Records) ((LL.makes Rc.the_type Rc'.the_plain) 𝓛) rec _ isrec $ fjoin ! $ move ! (2 ∷ 0 ∷ []) $ fjoin ! $
@@ -115,11 +115,11 @@ module _ {M : Type 1} {𝓤 : Ura M} (𝓛 : Logic 𝓤) (mem : Memory → SProp
       owned ! usize (Is usize) (uint_Makes 𝓛 w64) r _ (refl, isr) $ done !
 
   module _ (𝓣 : Tables 𝓤 H) (known-append : Triple 𝓤 (𝓣.C #append) (Append 𝓛 mem run)) (known-take : Triple 𝓤 (𝓣.C #take-from) (TakeFrom 𝓛 mem run)) (known-join : Triple 𝓤 (𝓣.C #join) (Join 𝓛 mem run)) where
-    walk : Room R nwork → used < 2 ^ 64 → Room R nheld → Is Records rec (machR rec ∷ []) → CanReplay used works helds → ent 𝓤 (on_entry 𝓛 f.signature (κwork, (κheld, tt)) (qwork, (qheld, tt)) a at) (WpFn 𝓤 H 𝓣.C 𝓣.Λ code.function (sv bwork owork nwork ∷ vint w64 used ∷ sv bheld oheld nheld ∷ machR rec ∷ []) Post)
+    walk : Room R nwork → used < 2 ^ 64 → Room R nheld → Is Records rec (mach_r rec ∷ []) → CanReplay used works helds → ent 𝓤 (on_entry 𝓛 f.signature (κwork, (κheld, tt)) (qwork, (qheld, tt)) a at) (WpFn 𝓤 H 𝓣.C 𝓣.Λ code.function (sv bwork owork nwork ∷ vint w64 used ∷ sv bheld oheld nheld ∷ mach_r rec ∷ []) Post)
     walk roomwork isused roomheld isrec req =
         qed 𝓛 ((‵ (flft κwork qwork) ⊛ (‵ (flft κheld qheld) ⊛ ‵ ftrue)) ∷ ‵ (owns (MutSlice (named 0) κwork R ∷ usize ∷ MutSlice (named 1) κheld R ∷ Records ∷ []) a at) ∷ []) ∵
         split ! $ move ! (1 ∷ []) $ split ! $ move ! (3 ∷ []) $ fsplit ! $ move ! (1 ∷ []) $ fsplit ! $ move ! (1 ∷ []) $ fsplit ! $ keep ! (3 ∷ 6 ∷ 0 ∷ 4 ∷ []) $
-        enter ! 𝓣.C 𝓣.Λ code.function (sv bwork owork nwork ∷ vint w64 used ∷ sv bheld oheld nheld ∷ machR rec ∷ []) _ $ alloc1 ! (λ l₀. alloc1 ! (λ l₁. alloc1 ! (λ l₂.
+        enter ! 𝓣.C 𝓣.Λ code.function (sv bwork owork nwork ∷ vint w64 used ∷ sv bheld oheld nheld ∷ mach_r rec ∷ []) _ $ alloc1 ! (λ l₀. alloc1 ! (λ l₁. alloc1 ! (λ l₂.
         alloc1 ! (λ l₃. alloc1 ! (λ l₄. alloc1 ! (λ l₅. alloc1 ! (λ l₆. alloc1 ! (λ l₇. alloc1 ! (λ l₈. alloc1 ! (λ l₉. alloc1 ! (λ l₁₀. alloc1 ! (λ l₁₁. alloc1 ! (λ l₁₂. alloc1 ! (λ l₁₃.
         alloc1 ! (λ l₁₄. alloc1 ! (λ l₁₅. alloc1 ! (λ l₁₆. alloc1 ! (λ l₁₇. alloc1 ! (λ l₁₈. alloc1 ! (λ l₁₉. alloc1 ! (λ l₂₀. alloc1 ! (λ l₂₁. alloc1 ! (λ l₂₂. alloc1 ! (λ l₂₃.
         alloc1 ! (λ l₂₄. alloc1 ! (λ l₂₅. alloc1 ! (λ l₂₆. alloc0 ! $ move ! (54 ∷ 55 ∷ 56 ∷ 57 ∷ []) $ params1 ! $
@@ -131,10 +131,10 @@ module _ {M : Type 1} {𝓤 : Ura M} (𝓛 : Logic 𝓤) (mem : Memory → SProp
           -- a claim puts a lot
           (λ one.
               assigns ! (agg ! (and_then ! (part ! 48 4 refl refl refl) (no_more !))) (from ! (stop !)) (init ! 44 refl ((LL.lawful Dn.the_type Dn'.the_laws 𝓛).typed (record { 0 = rec.second }) _ (number_is (record { 0 = rec.second }) of-r.1.1.1.1.0.1)).0) $
-              assigns ! (agg ! (and_then ! (part ! 48 3 refl refl refl) (and_then ! (part ! 48 1 refl refl refl) (and_then ! (local ! 44 refl) (and_then ! (part ! 48 2 refl refl refl) (no_more !)))))) (from ! (stop !)) (init ! 42 refl ((LL.lawful T.the_type T'.the_laws 𝓛).typed (lotOf rec) _ (claimed-is rec isrec)).0) $
+              assigns ! (agg ! (and_then ! (part ! 48 3 refl refl refl) (and_then ! (part ! 48 1 refl refl refl) (and_then ! (local ! 44 refl) (and_then ! (part ! 48 2 refl refl refl) (no_more !)))))) (from ! (stop !)) (init ! 42 refl ((LL.lawful T.the_type T'.the_laws 𝓛).typed (lot_of rec) _ (claimed-is rec isrec)).0) $
               assigns ! (slice_at ! 54 refl refl refl) (from ! (stop !)) (init ! 32 refl (tt, tt)) $
               assigns ! (agg ! (and_then ! (local ! 32 refl) (and_then ! (part ! 54 1 refl refl refl) (no_more !)))) (from ! (stop !)) (init ! 30 refl (tt, (tt, (record { fits = roomwork.0 }, tt)))) $
-              appends ! bwork owork nwork works used (lotOf rec) mem run 𝓣 known-append refl roomwork isused (claimed-is rec isrec) (λ ν δ. (and_then ! (local ! 30 refl) (and_then ! (local ! 52 refl) (and_then ! (local ! 42 refl) (no_more !))))) (λ w' same e.
+              appends ! bwork owork nwork works used (lot_of rec) mem run 𝓣 known-append refl roomwork isused (claimed-is rec isrec) (λ ν δ. (and_then ! (local ! 30 refl) (and_then ! (local ! 52 refl) (and_then ! (local ! 42 refl) (no_more !))))) (λ w' same e.
               land ! (from ! (stop !)) (init ! 34 refl (tt, tt)) $
               assigns_last ! (bin ! (local ! 52 refl) (lit ! tt) (record { fits = one_more req.few })) (from ! (stop !)) (init ! 36 refl (tt, record { fits = one_more req.few })) $
               exec ! 𝓣.C 𝓣.Λ (places codeMir.locals (l₀ ∷ l₁ ∷ l₂ ∷ l₃ ∷ l₄ ∷ l₅ ∷ l₆ ∷ l₇ ∷ l₈ ∷ l₉ ∷ l₁₀ ∷ l₁₁ ∷ l₁₂ ∷ l₁₃ ∷ l₁₄ ∷ l₁₅ ∷ l₁₆ ∷ l₁₇ ∷ l₁₈ ∷ l₁₉ ∷ l₂₀ ∷ l₂₁ ∷ l₂₂ ∷ l₂₃ ∷ l₂₄ ∷ l₂₅ ∷ l₂₆ ∷ [])) codeMir.t-3 (at_ret (places codeMir.locals (l₀ ∷ l₁ ∷ l₂ ∷ l₃ ∷ l₄ ∷ l₅ ∷ l₆ ∷ l₇ ∷ l₈ ∷ l₉ ∷ l₁₀ ∷ l₁₁ ∷ l₁₂ ∷ l₁₃ ∷ l₁₄ ∷ l₁₅ ∷ l₁₆ ∷ l₁₇ ∷ l₁₈ ∷ l₁₉ ∷ l₂₀ ∷ l₂₁ ∷ l₂₂ ∷ l₂₃ ∷ l₂₄ ∷ l₂₅ ∷ l₂₆ ∷ [])) Post) $
@@ -147,14 +147,14 @@ module _ {M : Type 1} {𝓤 : Ura M} (𝓛 : Logic 𝓤) (mem : Memory → SProp
               move ! (30 ∷ 31 ∷ []) $ free1 ! $ move ! (28 ∷ 29 ∷ []) $ free1 ! $ move ! (26 ∷ 27 ∷ []) $ free1 ! $ move ! (24 ∷ 25 ∷ []) $ free1 ! $ move ! (22 ∷ 23 ∷ []) $ free1 ! $
               move ! (20 ∷ 21 ∷ []) $ free1 ! $ move ! (18 ∷ 19 ∷ []) $ free1 ! $ move ! (16 ∷ 17 ∷ []) $ free1 ! $ move ! (14 ∷ 15 ∷ []) $ free1 ! $ move ! (12 ∷ 13 ∷ []) $ free1 ! $
               move ! (10 ∷ 11 ∷ []) $ free1 ! $ move ! (8 ∷ 9 ∷ []) $ free1 ! $ move ! (6 ∷ 7 ∷ []) $ free1 ! $ move ! (4 ∷ 5 ∷ []) $ free1 ! $ free0 ! $
-              by ! (exits isused isrec (used + 1) (one_more req.few) w' same helds refl (replays-claim rec used works helds req (is-claim rec one) w' e)))),
+              by ! (exits isused isrec (used + 1) (one_more req.few) w' same helds refl (replays-claim rec used works helds req (is_claim_lem rec one) w' e)))),
           -- of a transfer the pieces join the receiver's line
           (
             (λ two. assigns ! (slice_at ! 54 refl refl refl) (from ! (stop !)) (init ! 28 refl (tt, tt)) $
                 assigns ! (agg ! (and_then ! (local ! 28 refl) (and_then ! (part ! 54 1 refl refl refl) (no_more !)))) (from ! (stop !)) (init ! 26 refl (tt, (tt, (record { fits = roomwork.0 }, tt)))) $
                 assigns ! (slice_at ! 50 refl refl refl) (from ! (stop !)) (init ! 24 refl (tt, tt)) $
                 assigns ! (agg ! (and_then ! (local ! 24 refl) (and_then ! (part ! 50 1 refl refl refl) (no_more !)))) (from ! (stop !)) (init ! 22 refl (tt, (tt, (record { fits = roomheld.0 }, tt)))) $
-                takes-from ! bwork owork nwork works bheld oheld nheld helds used rec.first rec.asset rec.amount mem run 𝓣 known-take refl roomwork refl roomheld isused of-r.1.1.1.0.1 of-r.1.0.1 of-r.1.1.0.1 (can-take rec used works helds req) (λ ν δ ν' δ'. (and_then ! (local ! 25 refl) (and_then ! (local ! 51 refl) (and_then ! (local ! 21 refl) (and_then ! (part ! 47 3 refl refl refl) (and_then ! (part ! 47 1 refl refl refl) (and_then ! (part ! 47 2 refl refl refl) (no_more !)))))))) (λ s w' h' samew sameh e iss.
+                takes_from ! bwork owork nwork works bheld oheld nheld helds used rec.first rec.asset rec.amount mem run 𝓣 known-take refl roomwork refl roomheld isused of-r.1.1.1.0.1 of-r.1.0.1 of-r.1.1.0.1 (can_take rec used works helds req) (λ ν δ ν' δ'. (and_then ! (local ! 25 refl) (and_then ! (local ! 51 refl) (and_then ! (local ! 21 refl) (and_then ! (part ! 47 3 refl refl refl) (and_then ! (part ! 47 1 refl refl refl) (and_then ! (part ! 47 2 refl refl refl) (no_more !)))))))) (λ s w' h' samew sameh e iss.
                 land ! (from ! (stop !)) (init ! 40 refl ((LL.lawful Tk.the_type Tk'.the_laws 𝓛).typed s _ iss).0) $
                 let of-s = LL.owed Tk.the_type Tk'.the_laws s _ iss in let few : s.kept + s.taken ≤ used + 1 = few-after rec used works helds req s w' h' samew e in
                 assigns ! (slice_at ! 54 refl refl refl) (from ! (stop !)) (init ! 18 refl (tt, tt)) $
@@ -175,7 +175,7 @@ module _ {M : Type 1} {𝓤 : Ura M} (𝓛 : Logic 𝓤) (mem : Memory → SProp
                 move ! (26 ∷ 27 ∷ []) $ free1 ! $ move ! (24 ∷ 25 ∷ []) $ free1 ! $ move ! (22 ∷ 23 ∷ []) $ free1 ! $ move ! (20 ∷ 21 ∷ []) $ free1 ! $ move ! (18 ∷ 19 ∷ []) $ free1 ! $
                 move ! (16 ∷ 17 ∷ []) $ free1 ! $ move ! (14 ∷ 15 ∷ []) $ free1 ! $ move ! (12 ∷ 13 ∷ []) $ free1 ! $ move ! (10 ∷ 11 ∷ []) $ free1 ! $ move ! (8 ∷ 9 ∷ []) $ free1 ! $
                 move ! (6 ∷ 7 ∷ []) $ free1 ! $ move ! (4 ∷ 5 ∷ []) $ free1 ! $ free0 ! $
-                by ! (exits isused isrec (s.kept + s.taken) (both-fit s.kept s.taken few req.few) w'' (same ∙ samew) h' sameh (replays-transfer rec used works helds req s w' h' samew e (is-transfer rec two) w'' g))
+                by ! (exits isused isrec (s.kept + s.taken) (both-fit s.kept s.taken few req.few) w'' (same ∙ samew) h' sameh (replays-transfer rec used works helds req s w' h' samew e (is_transfer rec two) w'' g))
                 ))),
             -- a withdrawal's leave
             (
@@ -183,7 +183,7 @@ module _ {M : Type 1} {𝓤 : Ura M} (𝓛 : Logic 𝓤) (mem : Memory → SProp
                   assigns ! (agg ! (and_then ! (local ! 10 refl) (and_then ! (part ! 54 1 refl refl refl) (no_more !)))) (from ! (stop !)) (init ! 8 refl (tt, (tt, (record { fits = roomwork.0 }, tt)))) $
                   assigns ! (slice_at ! 50 refl refl refl) (from ! (stop !)) (init ! 6 refl (tt, tt)) $
                   assigns ! (agg ! (and_then ! (local ! 6 refl) (and_then ! (part ! 50 1 refl refl refl) (no_more !)))) (from ! (stop !)) (init ! 4 refl (tt, (tt, (record { fits = roomheld.0 }, tt)))) $
-                  takes-from ! bwork owork nwork works bheld oheld nheld helds used rec.first rec.asset rec.amount mem run 𝓣 known-take refl roomwork refl roomheld isused of-r.1.1.1.0.1 of-r.1.0.1 of-r.1.1.0.1 (can-take rec used works helds req) (λ ν δ ν' δ'. (and_then ! (local ! 7 refl) (and_then ! (local ! 51 refl) (and_then ! (local ! 3 refl) (and_then ! (part ! 47 3 refl refl refl) (and_then ! (part ! 47 1 refl refl refl) (and_then ! (part ! 47 2 refl refl refl) (no_more !)))))))) (λ s w' h' samew sameh e iss.
+                  takes_from ! bwork owork nwork works bheld oheld nheld helds used rec.first rec.asset rec.amount mem run 𝓣 known-take refl roomwork refl roomheld isused of-r.1.1.1.0.1 of-r.1.0.1 of-r.1.1.0.1 (can_take rec used works helds req) (λ ν δ ν' δ'. (and_then ! (local ! 7 refl) (and_then ! (local ! 51 refl) (and_then ! (local ! 3 refl) (and_then ! (part ! 47 3 refl refl refl) (and_then ! (part ! 47 1 refl refl refl) (and_then ! (part ! 47 2 refl refl refl) (no_more !)))))))) (λ s w' h' samew sameh e iss.
                   land ! (from ! (stop !)) (init ! 38 refl ((LL.lawful Tk.the_type Tk'.the_laws 𝓛).typed s _ iss).0) $
                   let kept-fits : s.kept < 2 ^ 64 = (LL.owed Tk.the_type Tk'.the_laws s _ iss).1.0.1 in
                   assigns_last ! (of_opd ! (part ! 38 1 refl refl refl)) (from ! (stop !)) (init ! 36 refl (tt, record { fits = kept-fits })) $
@@ -197,7 +197,7 @@ module _ {M : Type 1} {𝓤 : Ura M} (𝓛 : Logic 𝓤) (mem : Memory → SProp
                   move ! (30 ∷ 31 ∷ []) $ free1 ! $ move ! (28 ∷ 29 ∷ []) $ free1 ! $ move ! (26 ∷ 27 ∷ []) $ free1 ! $ move ! (24 ∷ 25 ∷ []) $ free1 ! $ move ! (22 ∷ 23 ∷ []) $ free1 ! $
                   move ! (20 ∷ 21 ∷ []) $ free1 ! $ move ! (18 ∷ 19 ∷ []) $ free1 ! $ move ! (16 ∷ 17 ∷ []) $ free1 ! $ move ! (14 ∷ 15 ∷ []) $ free1 ! $ move ! (12 ∷ 13 ∷ []) $ free1 ! $
                   move ! (10 ∷ 11 ∷ []) $ free1 ! $ move ! (8 ∷ 9 ∷ []) $ free1 ! $ move ! (6 ∷ 7 ∷ []) $ free1 ! $ move ! (4 ∷ 5 ∷ []) $ free1 ! $ free0 ! $
-                  by ! (exits isused isrec s.kept (kept-fits) w' samew h' sameh (replays-withdrawal rec used works helds req s w' h' samew e (is-withdrawal rec three) w' refl)))),
+                  by ! (exits isused isrec s.kept (kept-fits) w' samew h' sameh (replays-withdrawal rec used works helds req s w' h' samew e (is_withdrawal_lem rec three) w' refl)))),
               -- a grant moves none
               (
                 (λ four. assigns_last ! (of_opd ! (local ! 52 refl)) (from ! (stop !)) (init ! 36 refl (tt, record { fits = isused })) $
@@ -211,7 +211,7 @@ module _ {M : Type 1} {𝓤 : Ura M} (𝓛 : Logic 𝓤) (mem : Memory → SProp
                     move ! (26 ∷ 27 ∷ []) $ free1 ! $ move ! (24 ∷ 25 ∷ []) $ free1 ! $ move ! (22 ∷ 23 ∷ []) $ free1 ! $ move ! (20 ∷ 21 ∷ []) $ free1 ! $ move ! (18 ∷ 19 ∷ []) $ free1 ! $
                     move ! (16 ∷ 17 ∷ []) $ free1 ! $ move ! (14 ∷ 15 ∷ []) $ free1 ! $ move ! (12 ∷ 13 ∷ []) $ free1 ! $ move ! (10 ∷ 11 ∷ []) $ free1 ! $ move ! (8 ∷ 9 ∷ []) $ free1 ! $
                     move ! (6 ∷ 7 ∷ []) $ free1 ! $ move ! (4 ∷ 5 ∷ []) $ free1 ! $ free0 ! $
-                    by ! (exits isused isrec (used) (isused) works refl helds refl (replays-grant rec used works helds req (is-grant rec four)))),
+                    by ! (exits isused isrec (used) (isused) works refl helds refl (replays-grant rec used works helds req (is_grant rec four)))),
                 -- nor does any other
                 (λ none. assigns_last ! (of_opd ! (local ! 52 refl)) (from ! (stop !)) (init ! 36 refl (tt, record { fits = isused })) $
                     exec ! 𝓣.C 𝓣.Λ (places codeMir.locals (l₀ ∷ l₁ ∷ l₂ ∷ l₃ ∷ l₄ ∷ l₅ ∷ l₆ ∷ l₇ ∷ l₈ ∷ l₉ ∷ l₁₀ ∷ l₁₁ ∷ l₁₂ ∷ l₁₃ ∷ l₁₄ ∷ l₁₅ ∷ l₁₆ ∷ l₁₇ ∷ l₁₈ ∷ l₁₉ ∷ l₂₀ ∷ l₂₁ ∷ l₂₂ ∷ l₂₃ ∷ l₂₄ ∷ l₂₅ ∷ l₂₆ ∷ [])) codeMir.t-3 (at_ret (places codeMir.locals (l₀ ∷ l₁ ∷ l₂ ∷ l₃ ∷ l₄ ∷ l₅ ∷ l₆ ∷ l₇ ∷ l₈ ∷ l₉ ∷ l₁₀ ∷ l₁₁ ∷ l₁₂ ∷ l₁₃ ∷ l₁₄ ∷ l₁₅ ∷ l₁₆ ∷ l₁₇ ∷ l₁₈ ∷ l₁₉ ∷ l₂₀ ∷ l₂₁ ∷ l₂₂ ∷ l₂₃ ∷ l₂₄ ∷ l₂₅ ∷ l₂₆ ∷ [])) Post) $
@@ -224,7 +224,7 @@ module _ {M : Type 1} {𝓤 : Ura M} (𝓛 : Logic 𝓤) (mem : Memory → SProp
                     move ! (26 ∷ 27 ∷ []) $ free1 ! $ move ! (24 ∷ 25 ∷ []) $ free1 ! $ move ! (22 ∷ 23 ∷ []) $ free1 ! $ move ! (20 ∷ 21 ∷ []) $ free1 ! $ move ! (18 ∷ 19 ∷ []) $ free1 ! $
                     move ! (16 ∷ 17 ∷ []) $ free1 ! $ move ! (14 ∷ 15 ∷ []) $ free1 ! $ move ! (12 ∷ 13 ∷ []) $ free1 ! $ move ! (10 ∷ 11 ∷ []) $ free1 ! $ move ! (8 ∷ 9 ∷ []) $ free1 ! $
                     move ! (6 ∷ 7 ∷ []) $ free1 ! $ move ! (4 ∷ 5 ∷ []) $ free1 ! $ free0 ! $
-                    by ! (exits isused isrec (used) (isused) works refl helds refl (replays-other rec used works helds req (is-other rec none.0.0.0.1 none.0.0.1 none.0.1 none.1)))
+                    by ! (exits isused isrec (used) (isused) works refl helds refl (replays-other rec used works helds req (is_other_lem rec none.0.0.0.1 none.0.0.1 none.0.1 none.1)))
                     ),
               ),
             ),

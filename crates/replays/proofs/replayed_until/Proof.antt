@@ -38,17 +38,17 @@ use denote.Triple.Table.{entered, cited}
 use denote.Triple.Walked.{says, needs, Stays, stay_slice, stay_none_slice, stay_none, walk_of, Walks, ends_at, walked, Goes-slice, Goes-none_slice, Goes-none, walk_Meets}
 use Rattle.rules.specs.declared.rows.Lot.{Lot}
 use Rattle.rules.specs.declared.rows.Record.{Record}
-use Rattle.rules.specs.Tables.{recordShape}
+use Rattle.rules.specs.Tables.{record_shape}
 use Rattle.rules.specs.contracts.rows.Lot as T
 use Rattle.rules.specs.contracts.rows.Record as Rc
 use Rattle.rules.proofs.rows.Record.TheLaws as Rc'
 use Rattle.tables.specs.Rows.{row_at}
 use Rattle.replays.specs.Replaying.{Replays, CanReplayAll, ReplaysAll}
-use Rattle.replays.proofs.Payments.{replay-none, replay-more, can-replay}
+use Rattle.replays.proofs.Payments.{replay-none, replay-more, can_replay}
 use Rattle.takings.proofs.Loop.{tests, below, next_fits, less, less_wf}
 use Rattle.takings.proofs.Locals.{local, part, slice_at}
-use Rattle.takings.proofs.Values.{R, at-list, sv, word, refmut, refnum, refm, places, cell, spare}
-use Rattle.replays.proofs.ReplayCalls.{RecordAt, reads-record, Replayed, replays}
+use Rattle.takings.proofs.Values.{R, at_list, sv, word, refmut, refnum, refm, places, cell, spare}
+use Rattle.replays.proofs.ReplayCalls.{RecordAt, reads_record, Replayed, replays}
 use Rattle.records.proofs.record_at.Symbol as record-at-def
 use Rattle.records.proofs.record_at.Symbol.{name as #record-at}
 use Rattle.records.proofs.record_at.Met as record-at-thm
@@ -83,7 +83,7 @@ module _ {rows scratch upto : ℕ} {history : List ℕ} where
   abbrev μ : St rows scratch upto history → ℕ
   μ t = upto - t.i
 
-  abbrev next : (t : St rows scratch upto history) → t.i < upto → (r : Record) → r ≡ row_at recordShape t.i history → (u : ℕ) (w' h' : List Lot) → length w' ≡ length t.ws → length h' ≡ length t.hs
+  abbrev next : (t : St rows scratch upto history) → t.i < upto → (r : Record) → r ≡ row_at record_shape t.i history → (u : ℕ) (w' h' : List Lot) → length w' ≡ length t.ws → length h' ≡ length t.hs
       → Replays r t.used t.ws u w' → u < 2 ^ 64 → St rows scratch upto history
   next t more r e u w' h' samew sameh g isu =
       record {
@@ -122,7 +122,7 @@ module _ {M : Type 1} {𝓤 : Ura M} (𝓛 : Logic 𝓤) (mem : Memory → SProp
   nheld = length helds
 
   abbrev a : Arg
-  a = (at-list bhist ohist γhist hists, (upto, (at-list bwork owork γwork works, (at-list bheld oheld γheld helds, tt))))
+  a = (at_list bhist ohist γhist hists, (upto, (at_list bwork owork γwork works, (at_list bheld oheld γheld helds, tt))))
 
   abbrev at : List Val × (List Val × (List Val × (List Val × Unit {0})))
   at = (sv bhist ohist nhist ∷ [], (vint w64 upto ∷ [], (sv bwork owork nwork ∷ [], (sv bheld oheld nheld ∷ [], tt))))
@@ -130,9 +130,9 @@ module _ {M : Type 1} {𝓤 : Ura M} (𝓛 : Logic 𝓤) (mem : Memory → SProp
   abbrev Post : Val → SProp 𝓤
   Post = (walk_of 𝓛 f.ended stayed (f.clauses 𝓛 mem run)).post (((κhist, (κwork, (κheld, tt))), (qhist, (qwork, (qheld, tt))), tt, a, at), tt)
 
-  exits : upto < 2 ^ 64 → (r : ℕ) → r < 2 ^ 64 → (workw : List Lot) → length workw ≡ nwork → (heldw : List Lot) → length heldw ≡ nheld → ReplaysAll upto hists r workw → ent 𝓤 (⋆ 𝓛 (‵ ((ShrSlice (named 0) κhist u64).own_val (at-list bhist ohist γhist hists) (sv bhist ohist nhist ∷ [])) ∷ ‵ (flft κhist qhist) ∷ ‵ ((MutSlice (named 0) κwork R).own_val (at-list bwork owork γwork workw) (sv bwork owork nwork ∷ [])) ∷ ‵ (flft κwork qwork) ∷ ‵ ((MutSlice (named 0) κheld R).own_val (at-list bheld oheld γheld heldw) (sv bheld oheld nheld ∷ [])) ∷ ‵ (flft κheld qheld) ∷ [])) (Post (vint w64 r))
+  exits : upto < 2 ^ 64 → (r : ℕ) → r < 2 ^ 64 → (workw : List Lot) → length workw ≡ nwork → (heldw : List Lot) → length heldw ≡ nheld → ReplaysAll upto hists r workw → ent 𝓤 (⋆ 𝓛 (‵ ((ShrSlice (named 0) κhist u64).own_val (at_list bhist ohist γhist hists) (sv bhist ohist nhist ∷ [])) ∷ ‵ (flft κhist qhist) ∷ ‵ ((MutSlice (named 0) κwork R).own_val (at_list bwork owork γwork workw) (sv bwork owork nwork ∷ [])) ∷ ‵ (flft κwork qwork) ∷ ‵ ((MutSlice (named 0) κheld R).own_val (at_list bheld oheld γheld heldw) (sv bheld oheld nheld ∷ [])) ∷ ‵ (flft κheld qheld) ∷ [])) (Post (vint w64 r))
   exits isupto r isr workw lenwork heldw lenheld e =
-      qed 𝓛 (‵ ((ShrSlice (named 0) κhist u64).own_val (at-list bhist ohist γhist hists) (sv bhist ohist nhist ∷ [])) ∷ ‵ (flft κhist qhist) ∷ ‵ ((MutSlice (named 0) κwork R).own_val (at-list bwork owork γwork workw) (sv bwork owork nwork ∷ [])) ∷ ‵ (flft κwork qwork) ∷ ‵ ((MutSlice (named 0) κheld R).own_val (at-list bheld oheld γheld heldw) (sv bheld oheld nheld ∷ [])) ∷ ‵ (flft κheld qheld) ∷ []) ∵
+      qed 𝓛 (‵ ((ShrSlice (named 0) κhist u64).own_val (at_list bhist ohist γhist hists) (sv bhist ohist nhist ∷ [])) ∷ ‵ (flft κhist qhist) ∷ ‵ ((MutSlice (named 0) κwork R).own_val (at_list bwork owork γwork workw) (sv bwork owork nwork ∷ [])) ∷ ‵ (flft κwork qwork) ∷ ‵ ((MutSlice (named 0) κheld R).own_val (at_list bheld oheld γheld heldw) (sv bheld oheld nheld ∷ [])) ∷ ‵ (flft κheld qheld) ∷ []) ∵
       suffices ! _ (ends_at 𝓛 f.ended stayed (f.clauses 𝓛 mem run) (((κhist, (κwork, (κheld, tt))), (qhist, (qwork, (qheld, tt))), tt, a, at), tt) (vint w64 r) r (tt, (tt, (workw, (heldw, tt)))) (tt, (tt, (lenwork, (lenheld, tt))))) $ says ! e $
       nothing ! $ move ! (6 ∷ 0 ∷ []) $ join ! $ move ! (4 ∷ 0 ∷ []) $ join ! $ move ! (2 ∷ 0 ∷ []) $ join ! $ frame ! $ nothing ! $ move ! (3 ∷ 0 ∷ []) $ fjoin ! $ move ! (2 ∷ 0 ∷ []) $
       fjoin ! $ owned ! usize (Is usize) (uint_Makes 𝓛 w64) upto _ (refl, isupto) $ fjoin ! $ move ! (1 ∷ 0 ∷ []) $ fjoin ! $ frame ! $
@@ -142,7 +142,7 @@ module _ {M : Type 1} {𝓤 : Ura M} (𝓛 : Logic 𝓤) (mem : Memory → SProp
     -- the whole context at the loop's head
     abbrev I : ℕ → ℕ → ℕ → ℕ → ℕ → ℕ → ℕ → ℕ → ℕ → ℕ → ℕ → ℕ → ℕ → St nwork nheld upto hists → List (Item 𝓤)
     I l₀ l₁ l₂ l₃ l₄ l₅ l₆ l₇ l₈ l₉ l₁₀ l₁₁ l₁₂ t =
-        ‵ ((ShrSlice (named 0) κhist u64).own_val (at-list bhist ohist γhist hists) (sv bhist ohist nhist ∷ [])) ∷ ‵ (flft κhist qhist) ∷ ‵ ((MutSlice (named 0) κwork R).own_val (at-list bwork owork γwork t.ws) (sv bwork owork nwork ∷ [])) ∷ ‵ (flft κwork qwork) ∷ ‵ ((MutSlice (named 0) κheld R).own_val (at-list bheld oheld γheld t.hs) (sv bheld oheld nheld ∷ [])) ∷ ‵ (flft κheld qheld) ∷ (spare (slice_ty refm) l₁₂ (spare refm l₁₁ (spare (slice_ty refm) l₁₀ (spare refm l₉ (spare ty_bool l₈ (spare Rc'.mir l₇ (cell word l₆ (vint w64 t.i) (cell word l₅ (vint w64 t.used) (cell (slice_ty (refmut 2)) l₄ (sv bheld oheld nheld) (cell (slice_ty (refmut 1)) l₃ (sv bwork owork nwork) (cell word l₂ (vint w64 upto) (cell (slice_ty (refnum 0)) l₁ (sv bhist ohist nhist) (spare word l₀ [])))))))))))))
+        ‵ ((ShrSlice (named 0) κhist u64).own_val (at_list bhist ohist γhist hists) (sv bhist ohist nhist ∷ [])) ∷ ‵ (flft κhist qhist) ∷ ‵ ((MutSlice (named 0) κwork R).own_val (at_list bwork owork γwork t.ws) (sv bwork owork nwork ∷ [])) ∷ ‵ (flft κwork qwork) ∷ ‵ ((MutSlice (named 0) κheld R).own_val (at_list bheld oheld γheld t.hs) (sv bheld oheld nheld ∷ [])) ∷ ‵ (flft κheld qheld) ∷ (spare (slice_ty refm) l₁₂ (spare refm l₁₁ (spare (slice_ty refm) l₁₀ (spare refm l₉ (spare ty_bool l₈ (spare Rc'.mir l₇ (cell word l₆ (vint w64 t.i) (cell word l₅ (vint w64 t.used) (cell (slice_ty (refmut 2)) l₄ (sv bheld oheld nheld) (cell (slice_ty (refmut 1)) l₃ (sv bwork owork nwork) (cell word l₂ (vint w64 upto) (cell (slice_ty (refnum 0)) l₁ (sv bhist ohist nhist) (spare word l₀ [])))))))))))))
 
     walk : Room u64 nhist → upto < 2 ^ 64 → Room R nwork → Room R nheld → CanReplayAll upto works helds → ent 𝓤 (on_entry 𝓛 f.signature (κhist, (κwork, (κheld, tt))) (qhist, (qwork, (qheld, tt))) a at) (WpFn 𝓤 H 𝓣.C 𝓣.Λ code.function (sv bhist ohist nhist ∷ vint w64 upto ∷ sv bwork owork nwork ∷ sv bheld oheld nheld ∷ []) Post)
     unfolding after_turn
@@ -161,7 +161,7 @@ module _ {M : Type 1} {𝓤 : Ura M} (𝓛 : Logic 𝓤) (mem : Memory → SProp
         assigns ! (bin ! (local ! 18 refl) (local ! 26 refl) tt) (from ! (stop !)) (init ! 14 refl (tt, tt)) $ tests ! (local ! 14 refl) (λ yes.
         let more : t.i < upto = ltb→lt t.i upto yes in
         -- the record is read
-        reads-record ! bhist ohist nhist hists t.i mem run 𝓣 known-record (below isupto more) (and_then ! (local ! 28 refl) (and_then ! (local ! 18 refl) (no_more !))) (λ r e isr.
+        reads_record ! bhist ohist nhist hists t.i mem run 𝓣 known-record (below isupto more) (and_then ! (local ! 28 refl) (and_then ! (local ! 18 refl) (no_more !))) (λ r e isr.
         land ! (from ! (stop !)) (init ! 16 refl ((LL.lawful Rc.the_type Rc'.the_laws 𝓛).typed r _ isr).0) $
         -- and replayed
         assigns ! (slice_at ! 24 refl refl refl) (from ! (stop !)) (init ! 12 refl (tt, tt)) $
@@ -169,7 +169,7 @@ module _ {M : Type 1} {𝓤 : Ura M} (𝓛 : Logic 𝓤) (mem : Memory → SProp
         assigns ! (slice_at ! 22 refl refl refl) (from ! (stop !)) (init ! 8 refl (tt, tt)) $
         assigns ! (agg ! (and_then ! (local ! 8 refl) (and_then ! (part ! 22 1 refl refl refl) (no_more !)))) (from ! (stop !)) (init ! 6 refl (tt, (tt, (record { fits = roomheld.0 }, tt)))) $
         move ! (2 ∷ 3 ∷ 4 ∷ 5 ∷ []) $
-        replays ! bwork owork nwork t.ws bheld oheld nheld t.hs t.used r mem run 𝓣 known-replayed t.lenw roomwork t.lenh roomheld t.fits isr (can-replay hists works helds upto t.i t.used t.ws t.hs req more t.lenw t.lenh t.so_far) (λ ν δ ν' δ'. (and_then ! (local ! 9 refl) (and_then ! (local ! 19 refl) (and_then ! (local ! 5 refl) (and_then ! (local ! 15 refl) (no_more !)))))) (λ u w' h' samew sameh g isu.
+        replays ! bwork owork nwork t.ws bheld oheld nheld t.hs t.used r mem run 𝓣 known-replayed t.lenw roomwork t.lenh roomheld t.fits isr (can_replay hists works helds upto t.i t.used t.ws t.hs req more t.lenw t.lenh t.so_far) (λ ν δ ν' δ'. (and_then ! (local ! 9 refl) (and_then ! (local ! 19 refl) (and_then ! (local ! 5 refl) (and_then ! (local ! 15 refl) (no_more !)))))) (λ u w' h' samew sameh g isu.
         land ! (from ! (stop !)) (store ! 20 refl (tt, record { fits = isu })) $ move ! (4 ∷ 5 ∷ 0 ∷ 1 ∷ 2 ∷ 3 ∷ []) $
         assigns_last ! (bin ! (local ! 18 refl) (lit ! tt) (record { fits = next_fits isupto more })) (from ! (stop !)) (store ! 18 refl (tt, record { fits = next_fits isupto more })) $
         forget ! 16 refl $ forget ! 14 refl $ forget ! 12 refl $ forget ! 10 refl $ forget ! 8 refl $ forget ! 6 refl $

@@ -42,11 +42,11 @@ use Rattle.rules.proofs.rows.Record.TheLaws as Rc'
 use Rattle.replays.specs.Replaying.{CanTrace, Traces}
 use Rattle.takings.specs.contracts.work.Taking as Tk
 use Rattle.takings.proofs.work.Taking.TheLaws as Tk'
-use Rattle.replays.proofs.Pieces.{can-replay-all, can-take-here, traces}
+use Rattle.replays.proofs.Pieces.{can_replay-all, can_take-here, traces}
 use Rattle.takings.proofs.Locals.{local, part, slice_at}
-use Rattle.takings.proofs.Values.{R, at-list, sv}
-use Rattle.takings.proofs.TakingCalls.{TakeFrom, takes-from, Join, joins, Clear, clears}
-use Rattle.replays.proofs.ReplayCalls.{RecordAt, reads-record, PaymentAt, finds-payment, ReplayedUntil, replays-until}
+use Rattle.takings.proofs.Values.{R, at_list, sv}
+use Rattle.takings.proofs.TakingCalls.{TakeFrom, takes_from, Join, joins, Clear, clears}
+use Rattle.replays.proofs.ReplayCalls.{RecordAt, reads_record, PaymentAt, finds_payment, ReplayedUntil, replays_until}
 use Rattle.replays.proofs.payment_at.Symbol as payment-at-def
 use Rattle.replays.proofs.payment_at.Symbol.{name as #payment-at}
 use Rattle.replays.proofs.payment_at.Met as payment-at-thm
@@ -92,7 +92,7 @@ module _ {M : Type 1} {𝓤 : Ura M} (𝓛 : Logic 𝓤) (mem : Memory → SProp
   nout = length outs
 
   abbrev a : Arg
-  a = (at-list bhist ohist γhist hists, (records, (n, (at-list bwork owork γwork works, (at-list bheld oheld γheld helds, (at-list bout oout γout outs, tt))))))
+  a = (at_list bhist ohist γhist hists, (records, (n, (at_list bwork owork γwork works, (at_list bheld oheld γheld helds, (at_list bout oout γout outs, tt))))))
 
   abbrev at : List Val × (List Val × (List Val × (List Val × (List Val × (List Val × Unit {0})))))
   at = (sv bhist ohist nhist ∷ [], (vint w64 records ∷ [], (vint w64 n ∷ [], (sv bwork owork nwork ∷ [], (sv bheld oheld nheld ∷ [], (sv bout oout nout ∷ [], tt))))))
@@ -100,9 +100,9 @@ module _ {M : Type 1} {𝓤 : Ura M} (𝓛 : Logic 𝓤) (mem : Memory → SProp
   abbrev Post : Val → SProp 𝓤
   Post = (walk_of 𝓛 f.ended stayed (f.clauses 𝓛 mem run)).post (((κhist, (κwork, (κheld, (κout, tt)))), (qhist, (qwork, (qheld, (qout, tt)))), tt, a, at), tt)
 
-  exits : records < 2 ^ 64 → n < 2 ^ 64 → (r : ℕ) → r < 2 ^ 64 → (workw : List Lot) → length workw ≡ nwork → (heldw : List Lot) → length heldw ≡ nheld → (outw : List Lot) → length outw ≡ nout → Traces hists records n works outs r workw outw → ent 𝓤 (⋆ 𝓛 (‵ ((ShrSlice (named 0) κhist u64).own_val (at-list bhist ohist γhist hists) (sv bhist ohist nhist ∷ [])) ∷ ‵ (flft κhist qhist) ∷ ‵ ((MutSlice (named 0) κwork R).own_val (at-list bwork owork γwork workw) (sv bwork owork nwork ∷ [])) ∷ ‵ (flft κwork qwork) ∷ ‵ ((MutSlice (named 0) κheld R).own_val (at-list bheld oheld γheld heldw) (sv bheld oheld nheld ∷ [])) ∷ ‵ (flft κheld qheld) ∷ ‵ ((MutSlice (named 0) κout R).own_val (at-list bout oout γout outw) (sv bout oout nout ∷ [])) ∷ ‵ (flft κout qout) ∷ [])) (Post (vint w64 r))
+  exits : records < 2 ^ 64 → n < 2 ^ 64 → (r : ℕ) → r < 2 ^ 64 → (workw : List Lot) → length workw ≡ nwork → (heldw : List Lot) → length heldw ≡ nheld → (outw : List Lot) → length outw ≡ nout → Traces hists records n works outs r workw outw → ent 𝓤 (⋆ 𝓛 (‵ ((ShrSlice (named 0) κhist u64).own_val (at_list bhist ohist γhist hists) (sv bhist ohist nhist ∷ [])) ∷ ‵ (flft κhist qhist) ∷ ‵ ((MutSlice (named 0) κwork R).own_val (at_list bwork owork γwork workw) (sv bwork owork nwork ∷ [])) ∷ ‵ (flft κwork qwork) ∷ ‵ ((MutSlice (named 0) κheld R).own_val (at_list bheld oheld γheld heldw) (sv bheld oheld nheld ∷ [])) ∷ ‵ (flft κheld qheld) ∷ ‵ ((MutSlice (named 0) κout R).own_val (at_list bout oout γout outw) (sv bout oout nout ∷ [])) ∷ ‵ (flft κout qout) ∷ [])) (Post (vint w64 r))
   exits isrecords isn r isr workw lenwork heldw lenheld outw lenout e =
-      qed 𝓛 (‵ ((ShrSlice (named 0) κhist u64).own_val (at-list bhist ohist γhist hists) (sv bhist ohist nhist ∷ [])) ∷ ‵ (flft κhist qhist) ∷ ‵ ((MutSlice (named 0) κwork R).own_val (at-list bwork owork γwork workw) (sv bwork owork nwork ∷ [])) ∷ ‵ (flft κwork qwork) ∷ ‵ ((MutSlice (named 0) κheld R).own_val (at-list bheld oheld γheld heldw) (sv bheld oheld nheld ∷ [])) ∷ ‵ (flft κheld qheld) ∷ ‵ ((MutSlice (named 0) κout R).own_val (at-list bout oout γout outw) (sv bout oout nout ∷ [])) ∷ ‵ (flft κout qout) ∷ []) ∵
+      qed 𝓛 (‵ ((ShrSlice (named 0) κhist u64).own_val (at_list bhist ohist γhist hists) (sv bhist ohist nhist ∷ [])) ∷ ‵ (flft κhist qhist) ∷ ‵ ((MutSlice (named 0) κwork R).own_val (at_list bwork owork γwork workw) (sv bwork owork nwork ∷ [])) ∷ ‵ (flft κwork qwork) ∷ ‵ ((MutSlice (named 0) κheld R).own_val (at_list bheld oheld γheld heldw) (sv bheld oheld nheld ∷ [])) ∷ ‵ (flft κheld qheld) ∷ ‵ ((MutSlice (named 0) κout R).own_val (at_list bout oout γout outw) (sv bout oout nout ∷ [])) ∷ ‵ (flft κout qout) ∷ []) ∵
       suffices ! _ (ends_at 𝓛 f.ended stayed (f.clauses 𝓛 mem run) (((κhist, (κwork, (κheld, (κout, tt)))), (qhist, (qwork, (qheld, (qout, tt)))), tt, a, at), tt) (vint w64 r) r (tt, (tt, (tt, (workw, (heldw, (outw, tt)))))) (tt, (tt, (tt, (lenwork, (lenheld, (lenout, tt))))))) $ says ! e $
       nothing ! $ move ! (8 ∷ 0 ∷ []) $ join ! $ move ! (6 ∷ 0 ∷ []) $ join ! $ move ! (4 ∷ 0 ∷ []) $ join ! $ move ! (2 ∷ 0 ∷ []) $ join ! $ frame ! $ nothing ! $ move ! (4 ∷ 0 ∷ []) $
       fjoin ! $ move ! (3 ∷ 0 ∷ []) $ fjoin ! $ move ! (2 ∷ 0 ∷ []) $ fjoin ! $ owned ! u64 (Is u64) (uint_Makes 𝓛 w64) n _ (refl, isn) $ fjoin ! $
@@ -124,24 +124,24 @@ module _ {M : Type 1} {𝓤 : Ura M} (𝓛 : Logic 𝓤) (mem : Memory → SProp
         pass1 ! (init ! 48 refl (tt, (tt, (record { fits = roomheld.0 }, tt)))) $ pass1 ! (init ! 46 refl (tt, (tt, (record { fits = roomout.0 }, tt)))) $ pass0 ! $
         -- [what history owns; its token; what work owns; its token; what held owns; its token; what pieces owns; its token; _25; …; and so on to _1; …; room for _0; …]
         -- the payment is found
-        finds-payment ! bhist ohist nhist hists records n mem run 𝓣 known-payment isrecords isn (and_then ! (local ! 56 refl) (and_then ! (local ! 54 refl) (and_then ! (local ! 52 refl) (no_more !)))) (λ place found isplace.
+        finds_payment ! bhist ohist nhist hists records n mem run 𝓣 known-payment isrecords isn (and_then ! (local ! 56 refl) (and_then ! (local ! 54 refl) (and_then ! (local ! 52 refl) (no_more !)))) (λ place found isplace.
         land ! (from ! (stop !)) (init ! 44 refl (tt, record { fits = isplace })) $
         -- the records before it are replayed
         assigns ! (slice_at ! 50 refl refl refl) (from ! (stop !)) (init ! 36 refl (tt, tt)) $
         assigns ! (agg ! (and_then ! (local ! 36 refl) (and_then ! (part ! 50 1 refl refl refl) (no_more !)))) (from ! (stop !)) (init ! 34 refl (tt, (tt, (record { fits = roomwork.0 }, tt)))) $
         assigns ! (slice_at ! 48 refl refl refl) (from ! (stop !)) (init ! 32 refl (tt, tt)) $
         assigns ! (agg ! (and_then ! (local ! 32 refl) (and_then ! (part ! 48 1 refl refl refl) (no_more !)))) (from ! (stop !)) (init ! 30 refl (tt, (tt, (record { fits = roomheld.0 }, tt)))) $
-        replays-until ! bhist ohist nhist hists bwork owork nwork works bheld oheld nheld helds place mem run 𝓣 known-until refl roomwork refl roomheld isplace (can-replay-all hists records n works helds outs req place found) (λ ν δ ν' δ'. (and_then ! (local ! 54 refl) (and_then ! (local ! 42 refl) (and_then ! (local ! 32 refl) (and_then ! (local ! 28 refl) (no_more !)))))) (λ used w₁ h₁ wide long all isused.
+        replays_until ! bhist ohist nhist hists bwork owork nwork works bheld oheld nheld helds place mem run 𝓣 known-until refl roomwork refl roomheld isplace (can_replay-all hists records n works helds outs req place found) (λ ν δ ν' δ'. (and_then ! (local ! 54 refl) (and_then ! (local ! 42 refl) (and_then ! (local ! 32 refl) (and_then ! (local ! 28 refl) (no_more !)))))) (λ used w₁ h₁ wide long all isused.
         land ! (from ! (stop !)) (init ! 42 refl (tt, record { fits = isused })) $
         -- what it takes is taken
-        reads-record ! bhist ohist nhist hists place mem run 𝓣 known-record isplace (and_then ! (local ! 56 refl) (and_then ! (local ! 44 refl) (no_more !))) (λ rec e isrec.
+        reads_record ! bhist ohist nhist hists place mem run 𝓣 known-record isplace (and_then ! (local ! 56 refl) (and_then ! (local ! 44 refl) (no_more !))) (λ rec e isrec.
         land ! (from ! (stop !)) (init ! 40 refl ((LL.lawful Rc.the_type Rc'.the_laws 𝓛).typed rec _ isrec).0) $ let of-r = LL.owed Rc.the_type Rc'.the_laws rec _ isrec in
         assigns ! (slice_at ! 50 refl refl refl) (from ! (stop !)) (init ! 28 refl (tt, tt)) $
         assigns ! (agg ! (and_then ! (local ! 28 refl) (and_then ! (part ! 50 1 refl refl refl) (no_more !)))) (from ! (stop !)) (init ! 26 refl (tt, (tt, (record { fits = roomwork.0 }, tt)))) $
         assigns ! (slice_at ! 48 refl refl refl) (from ! (stop !)) (init ! 24 refl (tt, tt)) $
         assigns ! (agg ! (and_then ! (local ! 24 refl) (and_then ! (part ! 48 1 refl refl refl) (no_more !)))) (from ! (stop !)) (init ! 22 refl (tt, (tt, (record { fits = roomheld.0 }, tt)))) $
         move ! (2 ∷ 3 ∷ 4 ∷ 5 ∷ []) $
-        takes-from ! bwork owork nwork w₁ bheld oheld nheld h₁ used rec.first rec.asset rec.amount mem run 𝓣 known-take wide roomwork long roomheld isused of-r.1.1.1.0.1 of-r.1.0.1 of-r.1.1.0.1 (can-take-here hists records n works helds outs req place found used w₁ h₁ wide long all) (λ ν δ ν' δ'. (and_then ! (local ! 25 refl) (and_then ! (local ! 41 refl) (and_then ! (local ! 21 refl) (and_then ! (part ! 39 3 refl refl refl) (and_then ! (part ! 39 1 refl refl refl) (and_then ! (part ! 39 2 refl refl refl) (no_more !)))))))) (λ s w₂ h₂ samew sameh p iss.
+        takes_from ! bwork owork nwork w₁ bheld oheld nheld h₁ used rec.first rec.asset rec.amount mem run 𝓣 known-take wide roomwork long roomheld isused of-r.1.1.1.0.1 of-r.1.0.1 of-r.1.1.0.1 (can_take-here hists records n works helds outs req place found used w₁ h₁ wide long all) (λ ν δ ν' δ'. (and_then ! (local ! 25 refl) (and_then ! (local ! 41 refl) (and_then ! (local ! 21 refl) (and_then ! (part ! 39 3 refl refl refl) (and_then ! (part ! 39 1 refl refl refl) (and_then ! (part ! 39 2 refl refl refl) (no_more !)))))))) (λ s w₂ h₂ samew sameh p iss.
         land ! (from ! (stop !)) (init ! 38 refl ((LL.lawful Tk.the_type Tk'.the_laws 𝓛).typed s _ iss).0) $
         let taken-fits : s.taken < 2 ^ 64 = (LL.owed Tk.the_type Tk'.the_laws s _ iss).1.1.0.1 in
         -- the pieces are handed out, and the work table cleared

@@ -2,8 +2,8 @@
 use mathlib.Core.Path.{ap}
 use mathlib.Core.List.{[], ◌∷◌}
 use Rattle.rules.specs.declared.answers.Answer.{Answer}
-use Rattle.rules.specs.Replies.{toldRefusal, told}
-use Rattle.replies.proofs.ReplyLaws.{start-alone, start-told}
+use Rattle.rules.specs.Replies.{told_refusal, told}
+use Rattle.replies.proofs.ReplyLaws.{start_alone, start-told}
 use borrow.Author.Rules.{rules}
 use Rattle.replies.proofs.put_answer.Statement.{statement}
 use Rattle.replies.proofs.put_answer.Tie as tie
@@ -42,7 +42,7 @@ returns : tie.Need-returns
 unfolding told
 returns c =
     let a = c.before.before.before.before.before.before.before.before.args in
-    start-alone _ a.line c.before.before.before.before.before.reply-number.result (told a.a) c.before.before.before.before.before.reply-number.ensures (ap (λ (x : Answer). (told x).values) c.enum_told.given.1) c.before.before.before.before.put-reply.ensures
+    start_alone _ a.line c.before.before.before.before.before.reply-number.result (told a.a) c.before.before.before.before.before.reply-number.ensures (ap (λ (x : Answer). (told x).values) c.enum_told.given.1) c.before.before.before.before.put-reply.ensures
 
 same-length-2 : tie.Need-same-length-2
 same-length-2 c = search rules
@@ -70,7 +70,7 @@ returns-4 : tie.Need-returns-4
 unfolding told
 returns-4 c =
     let a = c.before.before.before.before.before.before.before.before.before.before.before.before.before.args in
-    start-told _ a.line c.before.before.before.before.before.before.before.before.before.before.reply-number.result (told a.a) (toldRefusal c.before.before.before.before.before.a3.given.0.0).values c.before.before.before.before.before.before.before.before.before.before.reply-number.ensures (ap (λ (y : Answer). (told y).values) c.before.before.before.before.before.a3.given.1) c.before.before.before.before.before.before.before.before.before.put-reply.ensures c.before.before.put-field.ensures
+    start-told _ a.line c.before.before.before.before.before.before.before.before.before.before.reply-number.result (told a.a) (told_refusal c.before.before.before.before.before.a3.given.0.0).values c.before.before.before.before.before.before.before.before.before.before.reply-number.ensures (ap (λ (y : Answer). (told y).values) c.before.before.before.before.before.a3.given.1) c.before.before.before.before.before.before.before.before.before.put-reply.ensures c.before.before.put-field.ensures
 
 pub put-answer-spec : {M : Type 1} → statement M
 put-answer-spec =

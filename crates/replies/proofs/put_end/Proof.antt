@@ -1,8 +1,8 @@
 -- `put_end`: the word, two values, and the line feed.
 use mathlib.Core.List.{[], ◌∷◌, ◌++◌}
 use Rattle.rules.specs.Lists.{bytes}
-use Rattle.rules.specs.Lines.{lineFeed, tabbed}
-use Rattle.rules.specs.Transcript.{endText}
+use Rattle.rules.specs.Lines.{line_feed, tabbed}
+use Rattle.rules.specs.Transcript.{end_text}
 use Rattle.pages.proofs.PageLaws.{put_then, put-values}
 use borrow.Author.Rules.{rules}
 use Rattle.replies.proofs.put_end.Statement.{statement}
@@ -27,10 +27,10 @@ same_length : tie.Need-same-length
 same_length c = search rules
 
 returns : tie.Need-returns
-unfolding bytes endText
+unfolding bytes end_text
 returns c =
     let t = c.before.before.before.before.before.before.before.before.before.before.before.before.before.before.before.before.before.before.args.t in
-    put_then _ (bytes "end" ++ tabbed (t.done ∷ t.other ∷ [])) (lineFeed ∷ [])
+    put_then _ (bytes "end" ++ tabbed (t.done ∷ t.other ∷ [])) (line_feed ∷ [])
     (put_then _ (bytes "end") (tabbed (t.done ∷ t.other ∷ [])) c.before.before.before.before.before.before.before.before.before.before.before.before.before.before.put-bytes.ensures (put-values _ (t.done ∷ []) (t.other ∷ []) c.before.before.before.before.before.before.before.before.before.before.put-value.ensures c.before.before.before.before.before.before.put-value2.ensures))
     c.before.before.put-line-feed.ensures
 

@@ -1,6 +1,6 @@
 -- `refusal_number`: case by case of the definition.
 use mathlib.Core.Path.{sym, ap}
-use Rattle.rules.specs.Replies.{toldRefusal, number_of}
+use Rattle.rules.specs.Replies.{told_refusal, number_of}
 use borrow.Author.Rules.{rules}
 use Rattle.replies.proofs.refusal_number.Statement.{statement}
 use Rattle.replies.proofs.refusal_number.Tie as tie
@@ -69,87 +69,87 @@ enum-told-21 : tie.Need-enum-told-21
 enum-told-21 c = search rules
 
 returns : tie.Need-returns
-unfolding toldRefusal
+unfolding told_refusal
 returns c = sym (ap number_of c.enum_told.given.1)
 
 returns-2 : tie.Need-returns-2
-unfolding toldRefusal
+unfolding told_refusal
 returns-2 c = sym (ap number_of c.enum-told2.given.1)
 
 returns-3 : tie.Need-returns-3
-unfolding toldRefusal
+unfolding told_refusal
 returns-3 c = sym (ap number_of c.enum-told3.given.1)
 
 returns-4 : tie.Need-returns-4
-unfolding toldRefusal
+unfolding told_refusal
 returns-4 c = sym (ap number_of c.enum-told4.given.1)
 
 returns-5 : tie.Need-returns-5
-unfolding toldRefusal
+unfolding told_refusal
 returns-5 c = sym (ap number_of c.enum-told5.given.1)
 
 returns-6 : tie.Need-returns-6
-unfolding toldRefusal
+unfolding told_refusal
 returns-6 c = sym (ap number_of c.enum-told6.given.1)
 
 returns-7 : tie.Need-returns-7
-unfolding toldRefusal
+unfolding told_refusal
 returns-7 c = sym (ap number_of c.enum-told7.given.1)
 
 returns-8 : tie.Need-returns-8
-unfolding toldRefusal
+unfolding told_refusal
 returns-8 c = sym (ap number_of c.enum-told8.given.1)
 
 returns-9 : tie.Need-returns-9
-unfolding toldRefusal
+unfolding told_refusal
 returns-9 c = sym (ap number_of c.enum-told9.given.1)
 
 returns-10 : tie.Need-returns-10
-unfolding toldRefusal
+unfolding told_refusal
 returns-10 c = sym (ap number_of c.enum-told10.given.1)
 
 returns-11 : tie.Need-returns-11
-unfolding toldRefusal
+unfolding told_refusal
 returns-11 c = sym (ap number_of c.enum-told11.given.1)
 
 returns-12 : tie.Need-returns-12
-unfolding toldRefusal
+unfolding told_refusal
 returns-12 c = sym (ap number_of c.enum-told12.given.1)
 
 returns-13 : tie.Need-returns-13
-unfolding toldRefusal
+unfolding told_refusal
 returns-13 c = sym (ap number_of c.enum-told13.given.1)
 
 returns-14 : tie.Need-returns-14
-unfolding toldRefusal
+unfolding told_refusal
 returns-14 c = sym (ap number_of c.enum-told14.given.1)
 
 returns-15 : tie.Need-returns-15
-unfolding toldRefusal
+unfolding told_refusal
 returns-15 c = sym (ap number_of c.enum-told15.given.1)
 
 returns-16 : tie.Need-returns-16
-unfolding toldRefusal
+unfolding told_refusal
 returns-16 c = sym (ap number_of c.enum-told16.given.1)
 
 returns-17 : tie.Need-returns-17
-unfolding toldRefusal
+unfolding told_refusal
 returns-17 c = sym (ap number_of c.enum-told17.given.1)
 
 returns-18 : tie.Need-returns-18
-unfolding toldRefusal
+unfolding told_refusal
 returns-18 c = sym (ap number_of c.enum-told18.given.1)
 
 returns-19 : tie.Need-returns-19
-unfolding toldRefusal
+unfolding told_refusal
 returns-19 c = sym (ap number_of c.enum-told19.given.1)
 
 returns-20 : tie.Need-returns-20
-unfolding toldRefusal
+unfolding told_refusal
 returns-20 c = sym (ap number_of c.enum-told20.given.1)
 
 returns-21 : tie.Need-returns-21
-unfolding toldRefusal
+unfolding told_refusal
 returns-21 c = sym (ap number_of c.enum-told21.given.1)
 
 pub refusal-number-spec : {M : Type 1} → statement M

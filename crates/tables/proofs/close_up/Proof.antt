@@ -4,7 +4,7 @@ use mathlib.Core.Path.{◌≡◌, refl, sym, ap, ap₂, ◌∙◌}
 use native.Mathlib.Omega.{arith}
 use lib.ListN.{length, length-set, get_or, set, take, drop, replicate}
 use Rattle.rules.specs.Tables.{splice}
-use Rattle.tables.proofs.Edits.{shifted, shifted_none, shifted_one, closed-up-row, last_row, put-tail, whole-tail}
+use Rattle.tables.proofs.Edits.{shifted, shifted_none, shifted_one, closed-up-row, last_row, put_tail, whole_tail}
 use borrow.Author.Rules.{rules}
 use Rattle.tables.proofs.close_up.Statement.{statement}
 use Rattle.tables.proofs.close_up.Tie as tie
@@ -77,8 +77,8 @@ returns c =
     let a = l.before.before.args in
     let p = l.before.before.requires in
     let e : l.loop.k ≡ (a.rows - 1) * a.width = omega arith in
-    put-tail ((a.rows - 1) * a.width) l.loop.t c.before.before.clear.new.0
-    ∙ ap (λ (x : List ℕ). take ((a.rows - 1) * a.width) l.loop.t ++ x) (c.before.before.clear.ensures ∙ ap (splice 0 (replicate a.width 0)) (whole-tail ((a.rows - 1) * a.width) l.loop.t))
+    put_tail ((a.rows - 1) * a.width) l.loop.t c.before.before.clear.new.0
+    ∙ ap (λ (x : List ℕ). take ((a.rows - 1) * a.width) l.loop.t ++ x) (c.before.before.clear.ensures ∙ ap (splice 0 (replicate a.width 0)) (whole_tail ((a.rows - 1) * a.width) l.loop.t))
     ∙ ap (λ (k : ℕ). take k l.loop.t ++ splice 0 (replicate a.width 0) (drop k l.loop.t)) (sym e)
     ∙ closed-up-row a.t.now l.loop.t a.width a.rows l.loop.k p.0 p.1 e l.loop.invariant.4
 

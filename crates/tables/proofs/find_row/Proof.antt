@@ -7,8 +7,8 @@ use lib.Dec.{leb}
 use lib.ListN.{length, take}
 use borrow.Author.Tests.{leb-true, not-true, not-false}
 use Rattle.rules.specs.Lists.{same}
-use Rattle.tables.proofs.Find.{FoundFrom, find-outside, find_none, find-here, find-later, find-end}
-use Rattle.tables.proofs.Edits.{row_before, whole-tail}
+use Rattle.tables.proofs.Find.{FoundFrom, find_outside, find_none, find_here, find_later, find_end}
+use Rattle.tables.proofs.Edits.{row_before, whole_tail}
 use borrow.Author.Rules.{rules}
 use Rattle.tables.proofs.find_row.Statement.{statement}
 use Rattle.tables.proofs.find_row.Tie as tie
@@ -31,7 +31,7 @@ lie-within-requires c κs = search rules
 returns : tie.Need-returns invariant-loop decreases-loop
 returns c =
     let a = c.before.before.before.before.args in
-    find-outside a.row.now a.n a.t.now (sym c.before.lie-within.ensures ∙ not-true c.before.lie-within.result c.if1.true)
+    find_outside a.row.now a.n a.t.now (sym c.before.lie-within.ensures ∙ not-true c.before.lie-within.result c.if1.true)
 
 loop-holds : tie.Need-loop-init invariant-loop decreases-loop
 loop-holds c =
@@ -61,7 +61,7 @@ returns-2 : tie.Need-returns-2 invariant-loop decreases-loop
 returns-2 c =
     let a = c.before.before.before.before.before.before.before.before.before.args in
     let l = c.before.before.before.before in
-    find-here a.row.now a.n a.t.now l.loop.i (omega arith) l.loop.invariant.3 (sym (ap (λ (x : List ℕ). same a.row.now (take (length a.row.now) x)) (whole-tail (l.loop.i * length a.row.now) a.t.now)) ∙ sym c.before.starts_with.ensures ∙ c.if2.true)
+    find_here a.row.now a.n a.t.now l.loop.i (omega arith) l.loop.invariant.3 (sym (ap (λ (x : List ℕ). same a.row.now (take (length a.row.now) x)) (whole_tail (l.loop.i * length a.row.now) a.t.now)) ∙ sym c.before.starts_with.ensures ∙ c.if2.true)
 
 add-i : tie.Need-overflow-add-i invariant-loop decreases-loop
 add-i c = search rules
@@ -73,13 +73,13 @@ loop-again : tie.Need-loop-preserved invariant-loop decreases-loop
 loop-again c =
     let a = c.before.before.before.before.before.before.before.before.before.args in
     let l = c.before.before.before.before in
-    (search rules, l.loop.invariant.1, l.loop.invariant.2, find-later a.row.now a.n a.t.now l.loop.i (omega arith) l.loop.invariant.3 (sym (ap (λ (x : List ℕ). same a.row.now (take (length a.row.now) x)) (whole-tail (l.loop.i * length a.row.now) a.t.now)) ∙ sym c.before.starts_with.ensures ∙ c.if2.false))
+    (search rules, l.loop.invariant.1, l.loop.invariant.2, find_later a.row.now a.n a.t.now l.loop.i (omega arith) l.loop.invariant.3 (sym (ap (λ (x : List ℕ). same a.row.now (take (length a.row.now) x)) (whole_tail (l.loop.i * length a.row.now) a.t.now)) ∙ sym c.before.starts_with.ensures ∙ c.if2.false))
 
 returns-3 : tie.Need-returns-3 invariant-loop decreases-loop
 returns-3 c =
     let a = c.before.before.before.before.before.before.args in
     let l = c.before in
-    find-end a.row.now a.n a.t.now l.loop.i (omega arith) l.loop.invariant.3
+    find_end a.row.now a.n a.t.now l.loop.i (omega arith) l.loop.invariant.3
 
 pub find-row-spec : {M : Type 1} → statement M
 find-row-spec =

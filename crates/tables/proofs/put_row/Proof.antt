@@ -2,7 +2,7 @@ use Prim.Native.Nat.{◌-◌, ◌≤◌}
 use mathlib.Core.Path.{◌≡◌, refl, ◌∙◌}
 use native.Mathlib.Omega.{arith}
 use lib.ListN.{length, length-set}
-use Rattle.tables.proofs.Edits.{copied, copied_none, copied-one, copied_all, put-none}
+use Rattle.tables.proofs.Edits.{copied, copied_none, copied_one, copied_all, put-none}
 use borrow.Author.Rules.{rules}
 use Rattle.tables.proofs.put_row.Statement.{statement}
 use Rattle.tables.proofs.put_row.Tie as tie
@@ -50,7 +50,7 @@ loop-again : tie.Need-loop-preserved invariant-loop decreases-loop
 loop-again c =
     let l = c.before.before in
     let a = l.before.before.before.args in
-    (search rules, simp length-set l.loop.invariant.1, cc (copied-one a.t.now a.at a.row.now l.loop.k (search rules) (search rules)))
+    (search rules, simp length-set l.loop.invariant.1, cc (copied_one a.t.now a.at a.row.now l.loop.k (search rules) (search rules)))
 
 same_length : tie.Need-same-length invariant-loop decreases-loop
 same_length c = search rules

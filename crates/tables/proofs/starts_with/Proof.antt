@@ -4,13 +4,13 @@ use native.Mathlib.Omega.{arith}
 use lib.ListN.{length, take, get_or}
 use borrow.Author.Tests.{ne_eqb, eq-eqb}
 use Rattle.rules.specs.Lists.{same}
-use Rattle.tables.proofs.Edits.{sameFrom, same_none, same-one, same-all, same-short}
+use Rattle.tables.proofs.Edits.{same_from, same_none, same-one, same-all, same-short}
 use borrow.Author.Rules.{rules}
 use Rattle.tables.proofs.starts_with.Statement.{statement}
 use Rattle.tables.proofs.starts_with.Tie as tie
 
 abbrev invariant-loop : tie.invariant-loop
-invariant-loop t row k₀ k = (k ≤ length row) × (length row ≤ length t) × (same row (take (length row) t) ≡ sameFrom k row t)
+invariant-loop t row k₀ k = (k ≤ length row) × (length row ≤ length t) × (same row (take (length row) t) ≡ same_from k row t)
 
 abbrev decreases-loop : tie.decreases-loop
 decreases-loop t row k₀ k = length row - k

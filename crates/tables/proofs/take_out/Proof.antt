@@ -5,8 +5,8 @@ use borrow.Author.Tests.{leb-true, not-true, not-false}
 use mathlib.Core.List.{List, ◌++◌}
 use native.Mathlib.Nat.{add-mul}
 use lib.ListN.{length, take, drop, length-drop}
-use Rattle.rules.specs.Tables.{withoutRow}
-use Rattle.tables.proofs.Edits.{taken-part, taken_none, taken-outside, row_before, put-tail, whole-tail}
+use Rattle.rules.specs.Tables.{without_row}
+use Rattle.tables.proofs.Edits.{taken_part, taken_none, taken-outside, row_before, put_tail, whole_tail}
 use borrow.Author.Rules.{rules}
 use Rattle.tables.proofs.take_out.Statement.{statement}
 use Rattle.tables.proofs.take_out.Tie as tie
@@ -55,7 +55,7 @@ close-up-requires c κs =
     let q : a.n ≡ a.i + (a.n - a.i) = omega arith in
     let p : a.n * a.width ≡ a.i * a.width + (a.n - a.i) * a.width = ap (λ (k : ℕ). k * a.width) q ∙ add-mul a.i (a.n - a.i) a.width in
     let l : length (drop (a.i * a.width) a.t.now) ≡ length a.t.now - a.i * a.width = length-drop (a.i * a.width) a.t.now in
-    (omega arith, rw (whole-tail (a.i * a.width) a.t.now) (omega arith))
+    (omega arith, rw (whole_tail (a.i * a.width) a.t.now) (omega arith))
 
 same_length : tie.Need-same-length
 same_length c = search rules
@@ -64,9 +64,9 @@ returns-3 : tie.Need-returns-3
 returns-3 c =
     let a = c.before.before.before.before.before.before.before.before.args in
     let w = within c.before.before.before.before in
-    put-tail (a.i * a.width) a.t.now c.before.before.close_up.new.0
-    ∙ ap (λ (x : List ℕ). take (a.i * a.width) a.t.now ++ x) (c.before.before.close_up.ensures ∙ ap (withoutRow a.width 0 (a.n - a.i)) (whole-tail (a.i * a.width) a.t.now))
-    ∙ taken-part a.t.now a.width a.i a.n (omega arith) w.1
+    put_tail (a.i * a.width) a.t.now c.before.before.close_up.new.0
+    ∙ ap (λ (x : List ℕ). take (a.i * a.width) a.t.now ++ x) (c.before.before.close_up.ensures ∙ ap (without_row a.width 0 (a.n - a.i)) (whole_tail (a.i * a.width) a.t.now))
+    ∙ taken_part a.t.now a.width a.i a.n (omega arith) w.1
 
 pub take-out-spec : {M : Type 1} → statement M
 take-out-spec =

@@ -2,7 +2,7 @@ use mathlib.Core.Path.{sym, ◌∙◌}
 use native.Mathlib.Omega.{arith}
 use Rattle.rules.specs.Effects.{balance}
 use Rattle.rules.specs.Facts.{Within}
-use Rattle.rules.proofs.Tests.{both, within-true}
+use Rattle.rules.proofs.Tests.{both, within_true}
 use borrow.Author.Rules.{rules}
 use Rattle.desk.proofs.fields.balance_of.Statement.{statement}
 use Rattle.desk.proofs.fields.balance_of.Tie as tie
@@ -11,7 +11,7 @@ use Rattle.desk.proofs.fields.balance_of.Tie as tie
 limits : (c : tie.Then1) → Within 1 16 c.before.before.before.args.m × Within 1 8 c.before.before.before.args.a
 limits c =
     let (m, a) = both c.before.before.is_member.result c.before.is-asset.result c.if1.true in
-    (within-true 1 16 _ (sym c.before.before.is_member.ensures ∙ m), within-true 1 8 _ (sym c.before.is-asset.ensures ∙ a))
+    (within_true 1 16 _ (sym c.before.before.is_member.ensures ∙ m), within_true 1 8 _ (sym c.before.is-asset.ensures ∙ a))
 
 is-member-requires : tie.Need-is-member-requires
 is-member-requires c κs = search rules

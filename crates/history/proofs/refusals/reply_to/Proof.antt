@@ -3,7 +3,7 @@ use mathlib.Core.Bool.{Bool, not, cond}
 use Rattle.rules.specs.declared.answers.Answer.{Answer}
 use Rattle.rules.specs.declared.answers.Refusal.{Refusal}
 use Rattle.rules.specs.State.{Book, view}
-use Rattle.rules.specs.Answer.{bookOf}
+use Rattle.rules.specs.Answer.{book_of}
 use Rattle.history.proofs.Traced.{trace-told}
 use borrow.Author.Rules.{rules}
 use Rattle.history.proofs.refusals.reply_to.Statement.{statement}
@@ -22,7 +22,7 @@ returns : tie.Need-returns
 unfolding view
 returns c =
     let a = c.before.before.before.before.before.before.args in
-    let b : Book = bookOf a.d a.inbox.now a.outbox.now a.history.now in
+    let b : Book = book_of a.d a.inbox.now a.outbox.now a.history.now in
     trace-told b a.rows a.places a.n c.refuse.result c.before.history-reply.result (c.before.history-reply.ensures (view b) refl)
     (c.refuse.ensures ∙ ap (λ (t : Bool). cond (not t) (Answer.Refused Refusal.BadBook) c.before.history-reply.result) c.before.before.framed.ensures)
 

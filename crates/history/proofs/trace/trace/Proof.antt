@@ -45,8 +45,8 @@ use Rattle.rules.specs.declared.rows.Lot.{Lot}
 use Rattle.rules.specs.declared.rows.Nonce.{Nonce}
 use Rattle.rules.specs.declared.desk.Desk.{Desk}
 use Rattle.rules.specs.declared.answers.Answer.{Answer}
-use Rattle.rules.specs.Lots.{noLot}
-use Rattle.rules.specs.Answer.{bookOf, traceAnswer}
+use Rattle.rules.specs.Lots.{no_lot}
+use Rattle.rules.specs.Answer.{book_of, trace_answer}
 use Rattle.rules.specs.contracts.rows.Lot as T
 use Rattle.rules.proofs.rows.Lot.TheLaws as T'
 use Rattle.rules.specs.contracts.rows.DepositNumber as Dn
@@ -57,14 +57,14 @@ use Rattle.rules.specs.contracts.desk.Desk as Dk
 use Rattle.rules.proofs.desk.Desk.TheLaws as Dk'
 use Rattle.rules.specs.contracts.answers.Answer as An
 use Rattle.rules.proofs.answers.Answer.TheLaws as An'
-use Rattle.desk.specs.Parts.{isDone}
-use Rattle.history.specs.Tracing.{traceOutcomeOf}
-use Rattle.history.proofs.Traced.{trace-refused, few-records, can-trace, trace-done}
-use Rattle.takings.proofs.Loop.{big-lit}
+use Rattle.desk.specs.Parts.{is_done}
+use Rattle.history.specs.Tracing.{trace_outcome_of}
+use Rattle.history.proofs.Traced.{trace-refused, few-records, can_trace, trace-done}
+use Rattle.takings.proofs.Loop.{big_lit}
 use Rattle.takings.proofs.Locals.{local, part, part_of, slice_at}
-use Rattle.takings.proofs.Values.{R, machOf, no-number-is, zeros-is, Desks, machK, Nonces, machN, Answers, machA, at-list, sv, places}
+use Rattle.takings.proofs.Values.{R, mach_of, no_number_is, zeros_is, Desks, mach_k, Nonces, mach_n, Answers, mach_a, at_list, sv, places}
 use Rattle.history.proofs.Table.{table_is}
-use Rattle.history.proofs.TraceCalls.{ReplyTo, refuses, IsDone, asks-done, Traced, traces-in}
+use Rattle.history.proofs.TraceCalls.{ReplyTo, refuses, IsDone, asks-done, Traced, traces_in}
 use Rattle.history.proofs.refusals.reply_to.Symbol as reply-to-def
 use Rattle.history.proofs.refusals.reply_to.Symbol.{name as #reply-to}
 use Rattle.history.proofs.refusals.reply_to.Met as reply-to-thm
@@ -100,13 +100,13 @@ all_room : Room R all
 all_room = (lit< tt, lit< tt)
 
 -- ---- the values read and made
-records-fit : (d : Desk) → Is Desks d (machK d ∷ []) → d.counts.records < 2 ^ 64
-records-fit d is = (LL.owed Dk.the_type Dk'.the_laws d _ is).1.1.1.1.0.1.1.1.1.1.1.1.0.1
+records_fit : (d : Desk) → Is Desks d (mach_k d ∷ []) → d.counts.records < 2 ^ 64
+records_fit d is = (LL.owed Dk.the_type Dk'.the_laws d _ is).1.1.1.1.0.1.1.1.1.1.1.1.0.1
 
-nonce-fits : (n : Nonce) → Is Nonces n (machN n ∷ []) → n.0 < 2 ^ 64
+nonce-fits : (n : Nonce) → Is Nonces n (mach_n n ∷ []) → n.0 < 2 ^ 64
 nonce-fits n is = (LL.owed Nn.the_type Nn'.the_laws n _ is).0.1
 
-traced-is : (count : ℕ) → count < 2 ^ 64 → Is Answers (Answer.Traced count) (machA (Answer.Traced count) ∷ [])
+traced-is : (count : ℕ) → count < 2 ^ 64 → Is Answers (Answer.Traced count) (mach_a (Answer.Traced count) ∷ [])
 traced-is count fits = Le.owes An.the_type An'.the_laws (Answer.Traced count) ((refl, fits), tt)
 
 -- ---- the test
@@ -137,30 +137,30 @@ module _ {M : Type 1} {𝓤 : Ura M} (𝓛 : Logic 𝓤) (mem : Memory → SProp
   nout = length outs
 
   abbrev a : Arg
-  a = (dk, (at-list binb oinb γinb inbs, (at-list boutb ooutb γoutb outbs, (at-list bhist ohist γhist hists, (at-list bwork owork γwork works, (at-list bout oout γout outs, (non, tt)))))))
+  a = (dk, (at_list binb oinb γinb inbs, (at_list boutb ooutb γoutb outbs, (at_list bhist ohist γhist hists, (at_list bwork owork γwork works, (at_list bout oout γout outs, (non, tt)))))))
 
   abbrev at : List Val × (List Val × (List Val × (List Val × (List Val × (List Val × (List Val × Unit {0}))))))
-  at = (machK dk ∷ [], (sv binb oinb ninb ∷ [], (sv boutb ooutb noutb ∷ [], (sv bhist ohist nhist ∷ [], (sv bwork owork nwork ∷ [], (sv bout oout nout ∷ [], (machN non ∷ [], tt)))))))
+  at = (mach_k dk ∷ [], (sv binb oinb ninb ∷ [], (sv boutb ooutb noutb ∷ [], (sv bhist ohist nhist ∷ [], (sv bwork owork nwork ∷ [], (sv bout oout nout ∷ [], (mach_n non ∷ [], tt)))))))
 
   abbrev Post : Val → SProp 𝓤
   Post = (walk_of 𝓛 f.ended stayed (f.clauses 𝓛 mem run)).post (((κinb, (κoutb, (κhist, (κwork, (κout, tt))))), (qinb, (qoutb, (qhist, (qwork, (qout, tt))))), tt, a, at), tt)
 
-  exits : Is Desks dk (machK dk ∷ []) → Is Nonces non (machN non ∷ []) → (r : Answer) → Is Answers r (machA r ∷ []) → (workw : List Lot) → length workw ≡ nwork → (outw : List Lot) → length outw ≡ nout → traceOutcomeOf r workw outw ≡ traceAnswer (bookOf dk inbs outbs hists) works outs non → ent 𝓤 (⋆ 𝓛 (‵ ((ShrSlice (named 0) κinb u64).own_val (at-list binb oinb γinb inbs) (sv binb oinb ninb ∷ [])) ∷ ‵ (flft κinb qinb) ∷ ‵ ((ShrSlice (named 0) κoutb u64).own_val (at-list boutb ooutb γoutb outbs) (sv boutb ooutb noutb ∷ [])) ∷ ‵ (flft κoutb qoutb) ∷ ‵ ((ShrSlice (named 0) κhist u64).own_val (at-list bhist ohist γhist hists) (sv bhist ohist nhist ∷ [])) ∷ ‵ (flft κhist qhist) ∷ ‵ ((MutSlice (named 0) κwork R).own_val (at-list bwork owork γwork workw) (sv bwork owork nwork ∷ [])) ∷ ‵ (flft κwork qwork) ∷ ‵ ((MutSlice (named 0) κout R).own_val (at-list bout oout γout outw) (sv bout oout nout ∷ [])) ∷ ‵ (flft κout qout) ∷ [])) (Post (machA r))
+  exits : Is Desks dk (mach_k dk ∷ []) → Is Nonces non (mach_n non ∷ []) → (r : Answer) → Is Answers r (mach_a r ∷ []) → (workw : List Lot) → length workw ≡ nwork → (outw : List Lot) → length outw ≡ nout → trace_outcome_of r workw outw ≡ trace_answer (book_of dk inbs outbs hists) works outs non → ent 𝓤 (⋆ 𝓛 (‵ ((ShrSlice (named 0) κinb u64).own_val (at_list binb oinb γinb inbs) (sv binb oinb ninb ∷ [])) ∷ ‵ (flft κinb qinb) ∷ ‵ ((ShrSlice (named 0) κoutb u64).own_val (at_list boutb ooutb γoutb outbs) (sv boutb ooutb noutb ∷ [])) ∷ ‵ (flft κoutb qoutb) ∷ ‵ ((ShrSlice (named 0) κhist u64).own_val (at_list bhist ohist γhist hists) (sv bhist ohist nhist ∷ [])) ∷ ‵ (flft κhist qhist) ∷ ‵ ((MutSlice (named 0) κwork R).own_val (at_list bwork owork γwork workw) (sv bwork owork nwork ∷ [])) ∷ ‵ (flft κwork qwork) ∷ ‵ ((MutSlice (named 0) κout R).own_val (at_list bout oout γout outw) (sv bout oout nout ∷ [])) ∷ ‵ (flft κout qout) ∷ [])) (Post (mach_a r))
   exits isdk isnon r isr workw lenwork outw lenout e =
-      qed 𝓛 (‵ ((ShrSlice (named 0) κinb u64).own_val (at-list binb oinb γinb inbs) (sv binb oinb ninb ∷ [])) ∷ ‵ (flft κinb qinb) ∷ ‵ ((ShrSlice (named 0) κoutb u64).own_val (at-list boutb ooutb γoutb outbs) (sv boutb ooutb noutb ∷ [])) ∷ ‵ (flft κoutb qoutb) ∷ ‵ ((ShrSlice (named 0) κhist u64).own_val (at-list bhist ohist γhist hists) (sv bhist ohist nhist ∷ [])) ∷ ‵ (flft κhist qhist) ∷ ‵ ((MutSlice (named 0) κwork R).own_val (at-list bwork owork γwork workw) (sv bwork owork nwork ∷ [])) ∷ ‵ (flft κwork qwork) ∷ ‵ ((MutSlice (named 0) κout R).own_val (at-list bout oout γout outw) (sv bout oout nout ∷ [])) ∷ ‵ (flft κout qout) ∷ []) ∵
-      suffices ! _ (ends_at 𝓛 f.ended stayed (f.clauses 𝓛 mem run) (((κinb, (κoutb, (κhist, (κwork, (κout, tt))))), (qinb, (qoutb, (qhist, (qwork, (qout, tt))))), tt, a, at), tt) (machA r) r (tt, (tt, (tt, (tt, (workw, (outw, (tt, tt))))))) (tt, (tt, (tt, (tt, (lenwork, (lenout, (tt, tt)))))))) $ says ! e $
+      qed 𝓛 (‵ ((ShrSlice (named 0) κinb u64).own_val (at_list binb oinb γinb inbs) (sv binb oinb ninb ∷ [])) ∷ ‵ (flft κinb qinb) ∷ ‵ ((ShrSlice (named 0) κoutb u64).own_val (at_list boutb ooutb γoutb outbs) (sv boutb ooutb noutb ∷ [])) ∷ ‵ (flft κoutb qoutb) ∷ ‵ ((ShrSlice (named 0) κhist u64).own_val (at_list bhist ohist γhist hists) (sv bhist ohist nhist ∷ [])) ∷ ‵ (flft κhist qhist) ∷ ‵ ((MutSlice (named 0) κwork R).own_val (at_list bwork owork γwork workw) (sv bwork owork nwork ∷ [])) ∷ ‵ (flft κwork qwork) ∷ ‵ ((MutSlice (named 0) κout R).own_val (at_list bout oout γout outw) (sv bout oout nout ∷ [])) ∷ ‵ (flft κout qout) ∷ []) ∵
+      suffices ! _ (ends_at 𝓛 f.ended stayed (f.clauses 𝓛 mem run) (((κinb, (κoutb, (κhist, (κwork, (κout, tt))))), (qinb, (qoutb, (qhist, (qwork, (qout, tt))))), tt, a, at), tt) (mach_a r) r (tt, (tt, (tt, (tt, (workw, (outw, (tt, tt))))))) (tt, (tt, (tt, (tt, (lenwork, (lenout, (tt, tt)))))))) $ says ! e $
       nothing ! $ move ! (10 ∷ 0 ∷ []) $ join ! $ move ! (8 ∷ 0 ∷ []) $ join ! $ move ! (6 ∷ 0 ∷ []) $ join ! $ move ! (4 ∷ 0 ∷ []) $ join ! $ move ! (2 ∷ 0 ∷ []) $ join ! $ frame ! $
       nothing ! $ owned ! Nonces (Is Nonces) ((LL.makes Nn.the_type Nn'.the_plain) 𝓛) non _ isnon $ fjoin ! $ move ! (5 ∷ 0 ∷ []) $ fjoin ! $ move ! (4 ∷ 0 ∷ []) $ fjoin ! $
       move ! (3 ∷ 0 ∷ []) $ fjoin ! $ move ! (2 ∷ 0 ∷ []) $ fjoin ! $ move ! (1 ∷ 0 ∷ []) $ fjoin ! $ owned ! Desks (Is Desks) ((LL.makes Dk.the_type Dk'.the_plain) 𝓛) dk _ isdk $
       fjoin ! $ frame ! $ owned ! Answers (Is Answers) ((Le.makes An.the_type An'.the_plain) 𝓛) r _ isr $ done !
 
   module _ (𝓣 : Tables 𝓤 H) (known-reply : Triple 𝓤 (𝓣.C #reply-to) (ReplyTo 𝓛 mem run)) (known-done : Triple 𝓤 (𝓣.C #is-done) (IsDone 𝓛 mem run)) (known-traced : Triple 𝓤 (𝓣.C #traced) (Traced 𝓛 mem run)) where
-    walk : Is Desks dk (machK dk ∷ []) → Room u64 ninb → Room u64 noutb → Room u64 nhist → Room R nwork → Room R nout → Is Nonces non (machN non ∷ []) → ent 𝓤 (on_entry 𝓛 f.signature (κinb, (κoutb, (κhist, (κwork, (κout, tt))))) (qinb, (qoutb, (qhist, (qwork, (qout, tt))))) a at) (WpFn 𝓤 H 𝓣.C 𝓣.Λ code.function (machK dk ∷ sv binb oinb ninb ∷ sv boutb ooutb noutb ∷ sv bhist ohist nhist ∷ sv bwork owork nwork ∷ sv bout oout nout ∷ machN non ∷ []) Post)
+    walk : Is Desks dk (mach_k dk ∷ []) → Room u64 ninb → Room u64 noutb → Room u64 nhist → Room R nwork → Room R nout → Is Nonces non (mach_n non ∷ []) → ent 𝓤 (on_entry 𝓛 f.signature (κinb, (κoutb, (κhist, (κwork, (κout, tt))))) (qinb, (qoutb, (qhist, (qwork, (qout, tt))))) a at) (WpFn 𝓤 H 𝓣.C 𝓣.Λ code.function (mach_k dk ∷ sv binb oinb ninb ∷ sv boutb ooutb noutb ∷ sv bhist ohist nhist ∷ sv bwork owork nwork ∷ sv bout oout nout ∷ mach_n non ∷ []) Post)
     walk isdk roominb roomoutb roomhist roomwork roomout isnon =
         qed 𝓛 ((‵ (flft κinb qinb) ⊛ (‵ (flft κoutb qoutb) ⊛ (‵ (flft κhist qhist) ⊛ (‵ (flft κwork qwork) ⊛ (‵ (flft κout qout) ⊛ ‵ ftrue))))) ∷ ‵ (owns (Desks ∷ ShrSlice (named 0) κinb u64 ∷ ShrSlice (named 1) κoutb u64 ∷ ShrSlice (named 2) κhist u64 ∷ MutSlice (named 3) κwork R ∷ MutSlice (named 4) κout R ∷ Nonces ∷ []) a at) ∷ []) ∵
         split ! $ move ! (1 ∷ []) $ split ! $ move ! (1 ∷ []) $ split ! $ move ! (1 ∷ []) $ split ! $ move ! (1 ∷ []) $ split ! $ move ! (6 ∷ []) $ fsplit ! $ move ! (1 ∷ []) $ fsplit ! $
         move ! (1 ∷ []) $ fsplit ! $ move ! (1 ∷ []) $ fsplit ! $ move ! (1 ∷ []) $ fsplit ! $ move ! (1 ∷ []) $ fsplit ! $ keep ! (5 ∷ 12 ∷ 4 ∷ 11 ∷ 3 ∷ 10 ∷ 2 ∷ 9 ∷ 0 ∷ 7 ∷ []) $
-        enter ! 𝓣.C 𝓣.Λ code.function (machK dk ∷ sv binb oinb ninb ∷ sv boutb ooutb noutb ∷ sv bhist ohist nhist ∷ sv bwork owork nwork ∷ sv bout oout nout ∷ machN non ∷ []) _ $
+        enter ! 𝓣.C 𝓣.Λ code.function (mach_k dk ∷ sv binb oinb ninb ∷ sv boutb ooutb noutb ∷ sv bhist ohist nhist ∷ sv bwork owork nwork ∷ sv bout oout nout ∷ mach_n non ∷ []) _ $
         alloc1 ! (λ l₀. alloc1 ! (λ l₁. alloc1 ! (λ l₂. alloc1 ! (λ l₃. alloc1 ! (λ l₄. alloc1 ! (λ l₅. alloc1 ! (λ l₆. alloc1 ! (λ l₇. alloc1 ! (λ l₈. alloc1 ! (λ l₉. alloc1 ! (λ l₁₀.
         alloc1 ! (λ l₁₁. alloc1 ! (λ l₁₂. alloc1 ! (λ l₁₃. alloc1 ! (λ l₁₄. alloc1 ! (λ l₁₅. alloc1 ! (λ l₁₆. alloc1 ! (λ l₁₇. alloc1 ! (λ l₁₈. alloc1 ! (λ l₁₉. alloc1 ! (λ l₂₀.
         alloc1 ! (λ l₂₁. alloc1 ! (λ l₂₂. alloc1 ! (λ l₂₃. alloc1 ! (λ l₂₄. alloc1 ! (λ l₂₅. alloc1 ! (λ l₂₆. alloc1 ! (λ l₂₇. alloc1 ! (λ l₂₈. alloc1 ! (λ l₂₉. alloc1 ! (λ l₃₀.
@@ -190,26 +190,26 @@ module _ {M : Type 1} {𝓤 : Ura M} (𝓛 : Logic 𝓤) (mem : Memory → SProp
         move ! (30 ∷ 31 ∷ []) $ free1 ! $ move ! (28 ∷ 29 ∷ []) $ free1 ! $ move ! (26 ∷ 27 ∷ []) $ free1 ! $ move ! (24 ∷ 25 ∷ []) $ free1 ! $ move ! (22 ∷ 23 ∷ []) $ free1 ! $
         move ! (20 ∷ 21 ∷ []) $ free1 ! $ move ! (18 ∷ 19 ∷ []) $ free1 ! $ move ! (16 ∷ 17 ∷ []) $ free1 ! $ move ! (14 ∷ 15 ∷ []) $ free1 ! $ move ! (12 ∷ 13 ∷ []) $ free1 ! $
         move ! (10 ∷ 11 ∷ []) $ free1 ! $ free0 ! $
-        by ! (exits isdk isnon reply isreply works refl outs refl (trace-refused (bookOf dk inbs outbs hists) works outs non reply tells (sym asked ∙ was-false done' refused))))
+        by ! (exits isdk isnon reply isreply works refl outs refl (trace-refused (book_of dk inbs outbs hists) works outs non reply tells (sym asked ∙ was-false done' refused))))
         -- not refused: is the history a short one?
         (λ goes_on. skips ! $
         exec ! 𝓣.C 𝓣.Λ (places codeMir.locals (l₀ ∷ l₁ ∷ l₂ ∷ l₃ ∷ l₄ ∷ l₅ ∷ l₆ ∷ l₇ ∷ l₈ ∷ l₉ ∷ l₁₀ ∷ l₁₁ ∷ l₁₂ ∷ l₁₃ ∷ l₁₄ ∷ l₁₅ ∷ l₁₆ ∷ l₁₇ ∷ l₁₈ ∷ l₁₉ ∷ l₂₀ ∷ l₂₁ ∷ l₂₂ ∷ l₂₃ ∷ l₂₄ ∷ l₂₅ ∷ l₂₆ ∷ l₂₇ ∷ l₂₈ ∷ l₂₉ ∷ l₃₀ ∷ [])) codeMir.t-7 (at_ret (places codeMir.locals (l₀ ∷ l₁ ∷ l₂ ∷ l₃ ∷ l₄ ∷ l₅ ∷ l₆ ∷ l₇ ∷ l₈ ∷ l₉ ∷ l₁₀ ∷ l₁₁ ∷ l₁₂ ∷ l₁₃ ∷ l₁₄ ∷ l₁₅ ∷ l₁₆ ∷ l₁₇ ∷ l₁₈ ∷ l₁₉ ∷ l₂₀ ∷ l₂₁ ∷ l₂₂ ∷ l₂₃ ∷ l₂₄ ∷ l₂₅ ∷ l₂₆ ∷ l₂₇ ∷ l₂₈ ∷ l₂₉ ∷ l₃₀ ∷ [])) Post) $
-        let well : isDone reply ≡ true = sym asked ∙ was-true done' goes_on in
-        assigns ! (agg ! (and_then ! (lit ! tt) (no_more !))) (from ! (stop !)) (init ! 34 refl ((LL.lawful Dn.the_type Dn'.the_laws 𝓛).typed (record { 0 = 0 }) _ no-number-is).0) $
-        assigns ! (agg ! (and_then ! (lit ! tt) (and_then ! (lit ! tt) (and_then ! (local ! 34 refl) (and_then ! (lit ! tt) (no_more !)))))) (from ! (stop !)) (init ! 52 refl ((LL.lawful T.the_type T'.the_laws 𝓛).typed noLot _ zeros-is).0) $
+        let well : is_done reply ≡ true = sym asked ∙ was-true done' goes_on in
+        assigns ! (agg ! (and_then ! (lit ! tt) (no_more !))) (from ! (stop !)) (init ! 34 refl ((LL.lawful Dn.the_type Dn'.the_laws 𝓛).typed (record { 0 = 0 }) _ no_number_is).0) $
+        assigns ! (agg ! (and_then ! (lit ! tt) (and_then ! (lit ! tt) (and_then ! (local ! 34 refl) (and_then ! (lit ! tt) (no_more !)))))) (from ! (stop !)) (init ! 52 refl ((LL.lawful T.the_type T'.the_laws 𝓛).typed no_lot _ zeros_is).0) $
         assigns ! (bin ! (part_of ! 68 4 5 refl refl refl refl refl) (lit ! tt) tt) (from ! (stop !)) (store ! 38 refl (tt, tt)) $ first ! $ branches ! (local ! 38 refl)
         -- a table of few rows is made
-        (λ short. assigns ! (rep ! few (local ! 52 refl)) (from ! (stop !)) (init ! 50 refl ((Array-Lawful 𝓛 R (LL.lawful T.the_type T'.the_laws 𝓛) few).typed (replicate few noLot) _ (table_is R noLot (machOf noLot) zeros-is few)).0) $
+        (λ short. assigns ! (rep ! few (local ! 52 refl)) (from ! (stop !)) (init ! 50 refl ((Array-Lawful 𝓛 R (LL.lawful T.the_type T'.the_laws 𝓛) few).typed (replicate few no_lot) _ (table_is R no_lot (mach_of no_lot) zeros_is few)).0) $
         assigns ! (slice_at ! 60 refl refl refl) (from ! (stop !)) (init ! 32 refl (tt, tt)) $
         assigns ! (agg ! (and_then ! (local ! 32 refl) (and_then ! (part ! 60 1 refl refl refl) (no_more !)))) (from ! (stop !)) (init ! 30 refl (tt, (tt, (record { fits = roomwork.0 }, tt)))) $
         assigns ! (addr ! (from ! (stop !))) (from ! (stop !)) (init ! 28 refl (tt, tt)) $
         assigns ! (agg ! (and_then ! (local ! 28 refl) (and_then ! (lit ! tt) (no_more !)))) (from ! (stop !)) (init ! 26 refl (tt, (tt, (record { fits = lit< tt }, tt)))) $
         assigns ! (slice_at ! 58 refl refl refl) (from ! (stop !)) (init ! 24 refl (tt, tt)) $
         assigns ! (agg ! (and_then ! (local ! 24 refl) (and_then ! (part ! 58 1 refl refl refl) (no_more !)))) (from ! (stop !)) (init ! 22 refl (tt, (tt, (record { fits = roomout.0 }, tt)))) $
-        let can = can-trace (bookOf dk inbs outbs hists) works outs non reply tells well (replicate few noLot) (rw (length-replicate few noLot) (leb→le dk.counts.records few short)) in
+        let can = can_trace (book_of dk inbs outbs hists) works outs non reply tells well (replicate few no_lot) (rw (length-replicate few no_lot) (leb→le dk.counts.records few short)) in
         -- and lent, with the others
         move ! (4 ∷ 5 ∷ 6 ∷ 7 ∷ 50 ∷ 8 ∷ 9 ∷ []) $
-        traces-in ! bhist ohist nhist hists bwork owork nwork works l₁₀ few bout oout nout outs dk.counts.records non.0 mem run 𝓣 known-traced refl roomwork few-room refl roomout (records-fit dk isdk) (nonce-fits non isnon) can (λ ν δ ν' δ' ν'' δ''. (and_then ! (local ! 60 refl) (and_then ! (part_of ! 66 4 5 refl refl refl refl refl) (and_then ! (part ! 54 0 refl refl refl) (and_then ! (local ! 29 refl) (and_then ! (local ! 25 refl) (and_then ! (local ! 21 refl) (no_more !)))))))) (λ count w' o' samew sameo t fits.
+        traces_in ! bhist ohist nhist hists bwork owork nwork works l₁₀ few bout oout nout outs dk.counts.records non.0 mem run 𝓣 known-traced refl roomwork few-room refl roomout (records_fit dk isdk) (nonce-fits non isnon) can (λ ν δ ν' δ' ν'' δ''. (and_then ! (local ! 60 refl) (and_then ! (part_of ! 66 4 5 refl refl refl refl refl) (and_then ! (part ! 54 0 refl refl refl) (and_then ! (local ! 29 refl) (and_then ! (local ! 25 refl) (and_then ! (local ! 21 refl) (no_more !)))))))) (λ count w' o' samew sameo t fits.
         move ! (7 ∷ 8 ∷ 9 ∷ 10 ∷ 0 ∷ 1 ∷ 2 ∷ 3 ∷ 5 ∷ 6 ∷ 11 ∷ 12 ∷ 13 ∷ 14 ∷ 15 ∷ 16 ∷ 17 ∷ 18 ∷ 19 ∷ 20 ∷ 21 ∷ 22 ∷ 23 ∷ 24 ∷ 25 ∷ 26 ∷ 27 ∷ 28 ∷ 29 ∷ 30 ∷ 31 ∷ 32 ∷ 33 ∷ 34 ∷ 35 ∷ 36 ∷ 37 ∷ 38 ∷ 39 ∷ 40 ∷ 41 ∷ 42 ∷ 43 ∷ 44 ∷ 45 ∷ 46 ∷ 47 ∷ 48 ∷ 49 ∷ 50 ∷ 4 ∷ []) $
         -- its room is back in its place
         land ! (from ! (stop !)) (init ! 48 refl (tt, record { fits = fits })) $
@@ -226,20 +226,20 @@ module _ {M : Type 1} {𝓤 : Ura M} (𝓛 : Logic 𝓤) (mem : Memory → SProp
         move ! (30 ∷ 31 ∷ []) $ free1 ! $ move ! (28 ∷ 29 ∷ []) $ free1 ! $ move ! (26 ∷ 27 ∷ []) $ free1 ! $ move ! (24 ∷ 25 ∷ []) $ free1 ! $ move ! (22 ∷ 23 ∷ []) $ free1 ! $
         move ! (20 ∷ 21 ∷ []) $ free1 ! $ move ! (18 ∷ 19 ∷ []) $ free1 ! $ move ! (16 ∷ 17 ∷ []) $ free1 ! $ move ! (14 ∷ 15 ∷ []) $ free1 ! $ move ! (12 ∷ 13 ∷ []) $ free1 ! $
         move ! (10 ∷ 11 ∷ []) $ free1 ! $ free0 ! $
-        by ! (exits isdk isnon (Answer.Traced count) (traced-is count fits) w' samew o' sameo (trace-done (bookOf dk inbs outbs hists) works outs non reply tells well count w' o' t))))
+        by ! (exits isdk isnon (Answer.Traced count) (traced-is count fits) w' samew o' sameo (trace-done (book_of dk inbs outbs hists) works outs non reply tells well count w' o' t))))
         -- a table of all rows is made
         (λ long. skips ! $ exec ! 𝓣.C 𝓣.Λ (places codeMir.locals (l₀ ∷ l₁ ∷ l₂ ∷ l₃ ∷ l₄ ∷ l₅ ∷ l₆ ∷ l₇ ∷ l₈ ∷ l₉ ∷ l₁₀ ∷ l₁₁ ∷ l₁₂ ∷ l₁₃ ∷ l₁₄ ∷ l₁₅ ∷ l₁₆ ∷ l₁₇ ∷ l₁₈ ∷ l₁₉ ∷ l₂₀ ∷ l₂₁ ∷ l₂₂ ∷ l₂₃ ∷ l₂₄ ∷ l₂₅ ∷ l₂₆ ∷ l₂₇ ∷ l₂₈ ∷ l₂₉ ∷ l₃₀ ∷ [])) codeMir.t-11 (at_ret (places codeMir.locals (l₀ ∷ l₁ ∷ l₂ ∷ l₃ ∷ l₄ ∷ l₅ ∷ l₆ ∷ l₇ ∷ l₈ ∷ l₉ ∷ l₁₀ ∷ l₁₁ ∷ l₁₂ ∷ l₁₃ ∷ l₁₄ ∷ l₁₅ ∷ l₁₆ ∷ l₁₇ ∷ l₁₈ ∷ l₁₉ ∷ l₂₀ ∷ l₂₁ ∷ l₂₂ ∷ l₂₃ ∷ l₂₄ ∷ l₂₅ ∷ l₂₆ ∷ l₂₇ ∷ l₂₈ ∷ l₂₉ ∷ l₃₀ ∷ [])) Post) $
-        assigns ! (rep ! all (local ! 52 refl)) (from ! (stop !)) (init ! 46 refl ((Array-Lawful 𝓛 R (LL.lawful T.the_type T'.the_laws 𝓛) all).typed (replicate all noLot) _ (table_is R noLot (machOf noLot) zeros-is all)).0) $
+        assigns ! (rep ! all (local ! 52 refl)) (from ! (stop !)) (init ! 46 refl ((Array-Lawful 𝓛 R (LL.lawful T.the_type T'.the_laws 𝓛) all).typed (replicate all no_lot) _ (table_is R no_lot (mach_of no_lot) zeros_is all)).0) $
         assigns ! (slice_at ! 60 refl refl refl) (from ! (stop !)) (init ! 20 refl (tt, tt)) $
         assigns ! (agg ! (and_then ! (local ! 20 refl) (and_then ! (part ! 60 1 refl refl refl) (no_more !)))) (from ! (stop !)) (init ! 18 refl (tt, (tt, (record { fits = roomwork.0 }, tt)))) $
         assigns ! (addr ! (from ! (stop !))) (from ! (stop !)) (init ! 16 refl (tt, tt)) $
-        assigns ! (agg ! (and_then ! (local ! 16 refl) (and_then ! (big-lit ! (lit< tt)) (no_more !)))) (from ! (stop !)) (init ! 14 refl (tt, (tt, (record { fits = lit< tt }, tt)))) $
+        assigns ! (agg ! (and_then ! (local ! 16 refl) (and_then ! (big_lit ! (lit< tt)) (no_more !)))) (from ! (stop !)) (init ! 14 refl (tt, (tt, (record { fits = lit< tt }, tt)))) $
         assigns ! (slice_at ! 58 refl refl refl) (from ! (stop !)) (init ! 12 refl (tt, tt)) $
         assigns ! (agg ! (and_then ! (local ! 12 refl) (and_then ! (part ! 58 1 refl refl refl) (no_more !)))) (from ! (stop !)) (init ! 10 refl (tt, (tt, (record { fits = roomout.0 }, tt)))) $
-        let can = can-trace (bookOf dk inbs outbs hists) works outs non reply tells well (replicate all noLot) (rw (length-replicate all noLot) (few-records (bookOf dk inbs outbs hists) works outs non reply tells well)) in
+        let can = can_trace (book_of dk inbs outbs hists) works outs non reply tells well (replicate all no_lot) (rw (length-replicate all no_lot) (few-records (book_of dk inbs outbs hists) works outs non reply tells well)) in
         -- and lent, with the others
         move ! (4 ∷ 5 ∷ 6 ∷ 7 ∷ 46 ∷ 8 ∷ 9 ∷ []) $
-        traces-in ! bhist ohist nhist hists bwork owork nwork works l₁₂ all bout oout nout outs dk.counts.records non.0 mem run 𝓣 known-traced refl roomwork all_room refl roomout (records-fit dk isdk) (nonce-fits non isnon) can (λ ν δ ν' δ' ν'' δ''. (and_then ! (local ! 60 refl) (and_then ! (part_of ! 66 4 5 refl refl refl refl refl) (and_then ! (part ! 54 0 refl refl refl) (and_then ! (local ! 17 refl) (and_then ! (local ! 13 refl) (and_then ! (local ! 9 refl) (no_more !)))))))) (λ count w' o' samew sameo t fits.
+        traces_in ! bhist ohist nhist hists bwork owork nwork works l₁₂ all bout oout nout outs dk.counts.records non.0 mem run 𝓣 known-traced refl roomwork all_room refl roomout (records_fit dk isdk) (nonce-fits non isnon) can (λ ν δ ν' δ' ν'' δ''. (and_then ! (local ! 60 refl) (and_then ! (part_of ! 66 4 5 refl refl refl refl refl) (and_then ! (part ! 54 0 refl refl refl) (and_then ! (local ! 17 refl) (and_then ! (local ! 13 refl) (and_then ! (local ! 9 refl) (no_more !)))))))) (λ count w' o' samew sameo t fits.
         move ! (7 ∷ 8 ∷ 9 ∷ 10 ∷ 0 ∷ 1 ∷ 2 ∷ 3 ∷ 5 ∷ 6 ∷ 11 ∷ 12 ∷ 13 ∷ 14 ∷ 15 ∷ 16 ∷ 17 ∷ 18 ∷ 19 ∷ 20 ∷ 21 ∷ 22 ∷ 23 ∷ 24 ∷ 25 ∷ 26 ∷ 27 ∷ 28 ∷ 29 ∷ 30 ∷ 31 ∷ 32 ∷ 33 ∷ 34 ∷ 35 ∷ 36 ∷ 37 ∷ 38 ∷ 39 ∷ 40 ∷ 41 ∷ 42 ∷ 43 ∷ 44 ∷ 45 ∷ 46 ∷ 4 ∷ []) $
         -- its room is back in its place
         land ! (from ! (stop !)) (init ! 44 refl (tt, record { fits = fits })) $
@@ -256,7 +256,7 @@ module _ {M : Type 1} {𝓤 : Ura M} (𝓛 : Logic 𝓤) (mem : Memory → SProp
         move ! (30 ∷ 31 ∷ []) $ free1 ! $ move ! (28 ∷ 29 ∷ []) $ free1 ! $ move ! (26 ∷ 27 ∷ []) $ free1 ! $ move ! (24 ∷ 25 ∷ []) $ free1 ! $ move ! (22 ∷ 23 ∷ []) $ free1 ! $
         move ! (20 ∷ 21 ∷ []) $ free1 ! $ move ! (18 ∷ 19 ∷ []) $ free1 ! $ move ! (16 ∷ 17 ∷ []) $ free1 ! $ move ! (14 ∷ 15 ∷ []) $ free1 ! $ move ! (12 ∷ 13 ∷ []) $ free1 ! $
         move ! (10 ∷ 11 ∷ []) $ free1 ! $ free0 ! $
-        by ! (exits isdk isnon (Answer.Traced count) (traced-is count fits) w' samew o' sameo (trace-done (bookOf dk inbs outbs hists) works outs non reply tells well count w' o' t))))
+        by ! (exits isdk isnon (Answer.Traced count) (traced-is count fits) w' samew o' sameo (trace-done (book_of dk inbs outbs hists) works outs non reply tells well count w' o' t))))
         ))))))))))))))))))))))))))))))))))
 
 module _ {M : Type 1} {𝓤 : Ura M} (𝓛 : Logic 𝓤) (mem : Memory → SProp 𝓤) (run : Routine → Fun 𝓤) (𝓣 : Tables 𝓤 𝓛.H) (known-reply : Triple 𝓤 (𝓣.C #reply-to) (ReplyTo 𝓛 mem run)) (known-done : Triple 𝓤 (𝓣.C #is-done) (IsDone 𝓛 mem run)) (known-traced : Triple 𝓤 (𝓣.C #traced) (Traced 𝓛 mem run)) where

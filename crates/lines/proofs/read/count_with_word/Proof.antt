@@ -3,7 +3,7 @@ use Prim.Native.Nat.{◌+◌}
 use mathlib.Core.Path.{sym, ap}
 use lib.ListN.{length}
 use Rattle.rules.specs.declared.calls.Call.{Call}
-use Rattle.rules.specs.Lines.{numbersOf}
+use Rattle.rules.specs.Lines.{numbers_of}
 use borrow.Author.Rules.{rules}
 use Rattle.lines.proofs.read.count_with_word.Statement.{statement}
 use Rattle.lines.proofs.read.count_with_word.Tie as tie
@@ -36,40 +36,40 @@ enum-told-9 : tie.Need-enum-told-9
 enum-told-9 c = search rules
 
 returns : tie.Need-returns
-unfolding numbersOf
-returns c = sym (ap (λ (x : Call). length (numbersOf x) + 1) c.enum_told.given.1)
+unfolding numbers_of
+returns c = sym (ap (λ (x : Call). length (numbers_of x) + 1) c.enum_told.given.1)
 
 returns-2 : tie.Need-returns-2
-unfolding numbersOf
-returns-2 c = sym (ap (λ (x : Call). length (numbersOf x) + 1) c.enum-told2.given.1)
+unfolding numbers_of
+returns-2 c = sym (ap (λ (x : Call). length (numbers_of x) + 1) c.enum-told2.given.1)
 
 returns-3 : tie.Need-returns-3
-unfolding numbersOf
-returns-3 c = sym (ap (λ (x : Call). length (numbersOf x) + 1) c.enum-told3.given.1)
+unfolding numbers_of
+returns-3 c = sym (ap (λ (x : Call). length (numbers_of x) + 1) c.enum-told3.given.1)
 
 returns-4 : tie.Need-returns-4
-unfolding numbersOf
-returns-4 c = sym (ap (λ (x : Call). length (numbersOf x) + 1) c.enum-told4.given.1)
+unfolding numbers_of
+returns-4 c = sym (ap (λ (x : Call). length (numbers_of x) + 1) c.enum-told4.given.1)
 
 returns-5 : tie.Need-returns-5
-unfolding numbersOf
-returns-5 c = sym (ap (λ (x : Call). length (numbersOf x) + 1) c.enum-told5.given.1)
+unfolding numbers_of
+returns-5 c = sym (ap (λ (x : Call). length (numbers_of x) + 1) c.enum-told5.given.1)
 
 returns-6 : tie.Need-returns-6
-unfolding numbersOf
-returns-6 c = sym (ap (λ (x : Call). length (numbersOf x) + 1) c.enum-told6.given.1)
+unfolding numbers_of
+returns-6 c = sym (ap (λ (x : Call). length (numbers_of x) + 1) c.enum-told6.given.1)
 
 returns-7 : tie.Need-returns-7
-unfolding numbersOf
-returns-7 c = sym (ap (λ (x : Call). length (numbersOf x) + 1) c.enum-told7.given.1)
+unfolding numbers_of
+returns-7 c = sym (ap (λ (x : Call). length (numbers_of x) + 1) c.enum-told7.given.1)
 
 returns-8 : tie.Need-returns-8
-unfolding numbersOf
-returns-8 c = sym (ap (λ (x : Call). length (numbersOf x) + 1) c.enum-told8.given.1)
+unfolding numbers_of
+returns-8 c = sym (ap (λ (x : Call). length (numbers_of x) + 1) c.enum-told8.given.1)
 
 returns-9 : tie.Need-returns-9
-unfolding numbersOf
-returns-9 c = sym (ap (λ (x : Call). length (numbersOf x) + 1) c.enum-told9.given.1)
+unfolding numbers_of
+returns-9 c = sym (ap (λ (x : Call). length (numbers_of x) + 1) c.enum-told9.given.1)
 
 pub count-with-word-spec : {M : Type 1} → statement M
 count-with-word-spec =

@@ -1,8 +1,8 @@
 -- `read::four_fields`: one number after the other, and then the last.
 use mathlib.Core.Path.{sym, ap, ◌∙◌}
-use Rattle.rules.specs.Lines.{andRead}
+use Rattle.rules.specs.Lines.{and_read}
 use Rattle.lines.specs.Reading.{one, four}
-use Rattle.lines.proofs.LineLaws.{not-read, one_more}
+use Rattle.lines.proofs.LineLaws.{not_read, one_more}
 use borrow.Author.Rules.{rules}
 use Rattle.lines.proofs.read.four_fields.Statement.{statement}
 use Rattle.lines.proofs.read.four_fields.Tie as tie
@@ -18,7 +18,7 @@ enum_told c = search rules
 
 returns : tie.Need-returns
 unfolding four
-returns c = not-read 1 3 _ (sym c.before.before.next_field.ensures ∙ c.enum_told.given.1)
+returns c = not_read 1 3 _ (sym c.before.before.next_field.ensures ∙ c.enum_told.given.1)
 
 after-field-requires : tie.Need-after-field-requires
 after-field-requires c κs = search rules
@@ -33,8 +33,8 @@ enum-told-2 : tie.Need-enum-told-2
 enum-told-2 c = search rules
 
 returns-2 : tie.Need-returns-2
-unfolding four andRead
-returns-2 c = one_more 1 3 _ (sym c.before.before.before.before.before.before.before.next_field.ensures ∙ c.before.before.before.before.before.first.given.1) c.before.before.before.after-field.ensures (not-read 2 2 _ (sym c.before.before.next-field2.ensures ∙ c.enum-told2.given.1))
+unfolding four and_read
+returns-2 c = one_more 1 3 _ (sym c.before.before.before.before.before.before.before.next_field.ensures ∙ c.before.before.before.before.before.first.given.1) c.before.before.before.after-field.ensures (not_read 2 2 _ (sym c.before.before.next-field2.ensures ∙ c.enum-told2.given.1))
 
 after-field-requires-2 : tie.Need-after-field-requires-2
 after-field-requires-2 c κs = search rules
@@ -49,8 +49,8 @@ enum-told-3 : tie.Need-enum-told-3
 enum-told-3 c = search rules
 
 returns-3 : tie.Need-returns-3
-unfolding four andRead
-returns-3 c = one_more 1 3 _ (sym c.before.before.before.before.before.before.before.before.before.before.before.before.next_field.ensures ∙ c.before.before.before.before.before.before.before.before.before.before.first.given.1) c.before.before.before.before.before.before.before.before.after-field.ensures (one_more 2 2 _ (sym c.before.before.before.before.before.before.before.next-field2.ensures ∙ c.before.before.before.before.before.second.given.1) c.before.before.before.after-field2.ensures (not-read 3 1 _ (sym c.before.before.next-field3.ensures ∙ c.enum-told3.given.1)))
+unfolding four and_read
+returns-3 c = one_more 1 3 _ (sym c.before.before.before.before.before.before.before.before.before.before.before.before.next_field.ensures ∙ c.before.before.before.before.before.before.before.before.before.before.first.given.1) c.before.before.before.before.before.before.before.before.after-field.ensures (one_more 2 2 _ (sym c.before.before.before.before.before.before.before.next-field2.ensures ∙ c.before.before.before.before.before.second.given.1) c.before.before.before.after-field2.ensures (not_read 3 1 _ (sym c.before.before.next-field3.ensures ∙ c.enum-told3.given.1)))
 
 after-field-requires-3 : tie.Need-after-field-requires-3
 after-field-requires-3 c κs = search rules
@@ -65,11 +65,11 @@ enum-known-j : tie.Need-enum-known-j
 enum-known-j c = search rules
 
 returns-4 : tie.Need-returns-4
-unfolding four one andRead
+unfolding four one and_read
 returns-4 c = one_more 1 3 _ (sym c.before.before.before.before.before.before.before.before.before.before.before.before.before.before.before.before.before.before.next_field.ensures ∙ c.before.before.before.before.before.before.before.before.before.before.before.before.before.before.before.before.first.given.1) c.before.before.before.before.before.before.before.before.before.before.before.before.before.before.after-field.ensures (one_more 2 2 _ (sym c.before.before.before.before.before.before.before.before.before.before.before.before.before.next-field2.ensures ∙ c.before.before.before.before.before.before.before.before.before.before.before.second.given.1) c.before.before.before.before.before.before.before.before.before.after-field2.ensures (one_more 3 1 _ (sym c.before.before.before.before.before.before.before.before.next-field3.ensures ∙ c.before.before.before.before.before.before.third.given.1) c.before.before.before.before.after-field3.ensures (sym (ap one c.before.fourth.given.1) ∙ c.before.before.before.last-field.ensures)))
 
 returns-5 : tie.Need-returns-5
-unfolding four one andRead
+unfolding four one and_read
 returns-5 c = one_more 1 3 _ (sym c.before.before.before.before.before.before.before.before.before.before.before.before.before.before.before.before.before.before.next_field.ensures ∙ c.before.before.before.before.before.before.before.before.before.before.before.before.before.before.before.before.first.given.1) c.before.before.before.before.before.before.before.before.before.before.before.before.before.before.after-field.ensures (one_more 2 2 _ (sym c.before.before.before.before.before.before.before.before.before.before.before.before.before.next-field2.ensures ∙ c.before.before.before.before.before.before.before.before.before.before.before.second.given.1) c.before.before.before.before.before.before.before.before.before.after-field2.ensures (one_more 3 1 _ (sym c.before.before.before.before.before.before.before.before.next-field3.ensures ∙ c.before.before.before.before.before.before.third.given.1) c.before.before.before.before.after-field3.ensures (sym (ap one c.before.j.given.1) ∙ c.before.before.before.last-field.ensures)))
 
 pub four-fields-spec : {M : Type 1} → statement M

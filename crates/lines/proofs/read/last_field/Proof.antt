@@ -2,10 +2,10 @@
 use mathlib.Core.Path.{sym, ◌∙◌}
 use native.Mathlib.Omega.{arith}
 use lib.ListN.{length-drop}
-use Rattle.rules.specs.Lines.{andRead}
+use Rattle.rules.specs.Lines.{and_read}
 use Rattle.fields.proofs.FieldLaws.{after_read}
 use Rattle.lines.specs.Reading.{one}
-use Rattle.lines.proofs.LineLaws.{not-read, one_more, one-too-many, no_more}
+use Rattle.lines.proofs.LineLaws.{not_read, one_more, one_too_many_lem, no_more}
 use borrow.Author.Rules.{rules}
 use Rattle.lines.proofs.read.last_field.Statement.{statement}
 use Rattle.lines.proofs.read.last_field.Tie as tie
@@ -21,20 +21,20 @@ enum_told c = search rules
 
 returns : tie.Need-returns
 unfolding one
-returns c = not-read _ 0 _ (sym c.before.before.next_field.ensures ∙ c.enum_told.given.1)
+returns c = not_read _ 0 _ (sym c.before.before.next_field.ensures ∙ c.enum_told.given.1)
 
 add-t8 : tie.Need-overflow-add-t8
 add-t8 c = search rules
 
 returns-2 : tie.Need-returns-2
-unfolding one andRead
+unfolding one and_read
 returns-2 c =
     let a = c.before.before.before.before.before.before.args in
     let e = sym c.before.before.before.before.next_field.ensures ∙ c.before.before.n.given.1 in
-    one_more a.k 0 a.s.now e (sym (after_read a.k a.s.now e)) (one-too-many _ _ (rw length-drop (omega (arith, c.if1.true))))
+    one_more a.k 0 a.s.now e (sym (after_read a.k a.s.now e)) (one_too_many_lem _ _ (rw length-drop (omega (arith, c.if1.true))))
 
 returns-3 : tie.Need-returns-3
-unfolding one andRead
+unfolding one and_read
 returns-3 c =
     let a = c.before.before.before.before.before.before.args in
     let e = sym c.before.before.before.before.next_field.ensures ∙ c.before.before.n.given.1 in

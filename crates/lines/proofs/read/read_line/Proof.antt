@@ -2,22 +2,22 @@
 use mathlib.Core.Path.{sym, ap, ◌∙◌}
 use native.Mathlib.Omega.{arith}
 use lib.Seq.{length-take-le}
-use Rattle.rules.specs.Limits.{mostHeld}
+use Rattle.rules.specs.Limits.{most_held}
 use Rattle.rules.specs.Lines.{unread}
-use Rattle.lines.proofs.LineLaws.{line-short, line-long}
+use Rattle.lines.proofs.LineLaws.{line-short, line_long}
 use Rattle.lines.proofs.Held.{whole-held}
 use borrow.Author.Rules.{rules}
 use Rattle.lines.proofs.read.read_line.Statement.{statement}
 use Rattle.lines.proofs.read.read_line.Tie as tie
 
 slice-aggregate-unread-field : tie.Need-slice-aggregate-unread-field
-slice-aggregate-unread-field c = sym (length-take-le mostHeld c.before.before.before.args.s.now (omega (arith, c.before.if1.true)))
+slice-aggregate-unread-field c = sym (length-take-le most_held c.before.before.before.args.s.now (omega (arith, c.before.if1.true)))
 
 unread-field-requires : tie.Need-unread-field-requires
 unread-field-requires c κs = search rules
 
 returns : tie.Need-returns
-returns c = c.unread-field.ensures ∙ ap unread (whole-held _) ∙ sym (line-long _ c.before.before.if1.true)
+returns c = c.unread-field.ensures ∙ ap unread (whole-held _) ∙ sym (line_long _ c.before.before.if1.true)
 
 read-whole-requires : tie.Need-read-whole-requires
 read-whole-requires c κs = search rules

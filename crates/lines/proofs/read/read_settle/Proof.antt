@@ -1,6 +1,6 @@
 -- `read::read_settle`: the form's call, or the field that does not read.
 use mathlib.Core.Path.{sym, ap, ◌∙◌}
-use Rattle.rules.specs.Lines.{settleForm, formed}
+use Rattle.rules.specs.Lines.{settle_form, formed}
 use Rattle.lines.specs.Reading.{one}
 use borrow.Author.Rules.{rules}
 use Rattle.lines.proofs.read.read_settle.Statement.{statement}
@@ -16,12 +16,12 @@ enum-known-j : tie.Need-enum-known-j
 enum-known-j c = search rules
 
 returns : tie.Need-returns
-unfolding formed settleForm one
-returns c = ap (formed settleForm) (sym (ap one c.before.n.given.1) ∙ c.before.before.before.last-field.ensures)
+unfolding formed settle_form one
+returns c = ap (formed settle_form) (sym (ap one c.before.n.given.1) ∙ c.before.before.before.last-field.ensures)
 
 returns-2 : tie.Need-returns-2
 unfolding formed one
-returns-2 c = ap (formed settleForm) (sym (ap one c.before.j.given.1) ∙ c.before.before.before.last-field.ensures)
+returns-2 c = ap (formed settle_form) (sym (ap one c.before.j.given.1) ∙ c.before.before.before.last-field.ensures)
 
 pub read-settle-spec : {M : Type 1} → statement M
 read-settle-spec =

@@ -1,6 +1,6 @@
 -- `read::read_trace`: the form's call, or the field that does not read.
 use mathlib.Core.Path.{sym, ap, ◌∙◌}
-use Rattle.rules.specs.Lines.{traceForm, formed}
+use Rattle.rules.specs.Lines.{trace_form, formed}
 use Rattle.lines.specs.Reading.{one}
 use borrow.Author.Rules.{rules}
 use Rattle.lines.proofs.read.read_trace.Statement.{statement}
@@ -16,12 +16,12 @@ enum-known-j : tie.Need-enum-known-j
 enum-known-j c = search rules
 
 returns : tie.Need-returns
-unfolding formed traceForm one
-returns c = ap (formed traceForm) (sym (ap one c.before.n.given.1) ∙ c.before.before.before.last-field.ensures)
+unfolding formed trace_form one
+returns c = ap (formed trace_form) (sym (ap one c.before.n.given.1) ∙ c.before.before.before.last-field.ensures)
 
 returns-2 : tie.Need-returns-2
 unfolding formed one
-returns-2 c = ap (formed traceForm) (sym (ap one c.before.j.given.1) ∙ c.before.before.before.last-field.ensures)
+returns-2 c = ap (formed trace_form) (sym (ap one c.before.j.given.1) ∙ c.before.before.before.last-field.ensures)
 
 pub read-trace-spec : {M : Type 1} → statement M
 read-trace-spec =

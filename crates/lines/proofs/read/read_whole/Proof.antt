@@ -4,10 +4,10 @@ use mathlib.Core.List.{[]}
 use native.Mathlib.Omega.{arith}
 use lib.ListN.{length-take}
 use Rattle.rules.specs.Lists.{any, bytes}
-use Rattle.rules.specs.Lines.{form_of, depositForm, claimForm, transferForm, withdrawForm, sendForm, settleForm, grantForm, signForm, traceForm, forms}
+use Rattle.rules.specs.Lines.{form_of, deposit_form, claim_form, transfer_form, withdraw_form, send_form, settle_form, grant_form, sign_form, trace_form, forms}
 use Rattle.rules.proofs.ReadBack.{alone}
-use Rattle.fields.proofs.FieldLaws.{end-within}
-use Rattle.lines.proofs.LineLaws.{line-form, line-none}
+use Rattle.fields.proofs.FieldLaws.{end_within}
+use Rattle.lines.proofs.LineLaws.{line_form, line-none}
 use borrow.Author.Rules.{rules}
 use Rattle.lines.proofs.read.read_whole.Statement.{statement}
 use Rattle.lines.proofs.read.read_whole.Tie as tie
@@ -16,7 +16,7 @@ field-end-requires : tie.Need-field-end-requires
 field-end-requires c κs = search rules
 
 slice-aggregate-word : tie.Need-slice-aggregate-word
-slice-aggregate-word c = rw length-take (omega (arith, end-within c.before.before.before.args.s.now, c.before.field-end.ensures))
+slice-aggregate-word c = rw length-take (omega (arith, end_within c.before.before.before.args.s.now, c.before.field-end.ensures))
 
 after-field-requires : tie.Need-after-field-requires
 after-field-requires c κs = search rules
@@ -31,8 +31,8 @@ read-deposit-requires : tie.Need-read-deposit-requires
 read-deposit-requires c κs = search rules
 
 returns : tie.Need-returns
-unfolding bytes form_of depositForm
-returns c = line-form c.before.before.before.before.before.before.before.before.args.s.now c.before.before.before.before.before.before.field-end.ensures depositForm (alone (depositForm.call [])) c.before.before.word-is.ensures c.before.if1.true c.before.before.before.before.after-field.ensures c.read-deposit.ensures
+unfolding bytes form_of deposit_form
+returns c = line_form c.before.before.before.before.before.before.before.before.args.s.now c.before.before.before.before.before.before.field-end.ensures deposit_form (alone (deposit_form.call [])) c.before.before.word-is.ensures c.before.if1.true c.before.before.before.before.after-field.ensures c.read-deposit.ensures
 
 slice-aggregate-word-is-2 : tie.Need-slice-aggregate-word-is-2
 slice-aggregate-word-is-2 c = search rules
@@ -44,8 +44,8 @@ read-claim-requires : tie.Need-read-claim-requires
 read-claim-requires c κs = search rules
 
 returns-2 : tie.Need-returns-2
-unfolding bytes form_of claimForm
-returns-2 c = line-form c.before.before.before.before.before.before.before.before.before.before.before.args.s.now c.before.before.before.before.before.before.before.before.before.field-end.ensures claimForm (alone (claimForm.call [])) c.before.before.word-is2.ensures c.before.if2.true c.before.before.before.before.before.before.before.after-field.ensures c.read-claim.ensures
+unfolding bytes form_of claim_form
+returns-2 c = line_form c.before.before.before.before.before.before.before.before.before.before.before.args.s.now c.before.before.before.before.before.before.before.before.before.field-end.ensures claim_form (alone (claim_form.call [])) c.before.before.word-is2.ensures c.before.if2.true c.before.before.before.before.before.before.before.after-field.ensures c.read-claim.ensures
 
 slice-aggregate-word-is-3 : tie.Need-slice-aggregate-word-is-3
 slice-aggregate-word-is-3 c = search rules
@@ -57,8 +57,8 @@ read-transfer-requires : tie.Need-read-transfer-requires
 read-transfer-requires c κs = search rules
 
 returns-3 : tie.Need-returns-3
-unfolding bytes form_of transferForm
-returns-3 c = line-form c.before.before.before.before.before.before.before.before.before.before.before.before.before.before.args.s.now c.before.before.before.before.before.before.before.before.before.before.before.before.field-end.ensures transferForm (alone (transferForm.call [])) c.before.before.word-is3.ensures c.before.if3.true c.before.before.before.before.before.before.before.before.before.before.after-field.ensures c.read-transfer.ensures
+unfolding bytes form_of transfer_form
+returns-3 c = line_form c.before.before.before.before.before.before.before.before.before.before.before.before.before.before.args.s.now c.before.before.before.before.before.before.before.before.before.before.before.before.field-end.ensures transfer_form (alone (transfer_form.call [])) c.before.before.word-is3.ensures c.before.if3.true c.before.before.before.before.before.before.before.before.before.before.after-field.ensures c.read-transfer.ensures
 
 slice-aggregate-word-is-4 : tie.Need-slice-aggregate-word-is-4
 slice-aggregate-word-is-4 c = search rules
@@ -70,8 +70,8 @@ read-withdraw-requires : tie.Need-read-withdraw-requires
 read-withdraw-requires c κs = search rules
 
 returns-4 : tie.Need-returns-4
-unfolding bytes form_of withdrawForm
-returns-4 c = line-form c.before.before.before.before.before.before.before.before.before.before.before.before.before.before.before.before.before.args.s.now c.before.before.before.before.before.before.before.before.before.before.before.before.before.before.before.field-end.ensures withdrawForm (alone (withdrawForm.call [])) c.before.before.word-is4.ensures c.before.if4.true c.before.before.before.before.before.before.before.before.before.before.before.before.before.after-field.ensures c.read-withdraw.ensures
+unfolding bytes form_of withdraw_form
+returns-4 c = line_form c.before.before.before.before.before.before.before.before.before.before.before.before.before.before.before.before.before.args.s.now c.before.before.before.before.before.before.before.before.before.before.before.before.before.before.before.field-end.ensures withdraw_form (alone (withdraw_form.call [])) c.before.before.word-is4.ensures c.before.if4.true c.before.before.before.before.before.before.before.before.before.before.before.before.before.after-field.ensures c.read-withdraw.ensures
 
 slice-aggregate-word-is-5 : tie.Need-slice-aggregate-word-is-5
 slice-aggregate-word-is-5 c = search rules
@@ -83,8 +83,8 @@ read-send-requires : tie.Need-read-send-requires
 read-send-requires c κs = search rules
 
 returns-5 : tie.Need-returns-5
-unfolding bytes form_of sendForm
-returns-5 c = line-form c.before.before.before.before.before.before.before.before.before.before.before.before.before.before.before.before.before.before.before.before.args.s.now c.before.before.before.before.before.before.before.before.before.before.before.before.before.before.before.before.before.before.field-end.ensures sendForm (alone (sendForm.call [])) c.before.before.word-is5.ensures c.before.if5.true c.before.before.before.before.before.before.before.before.before.before.before.before.before.before.before.before.after-field.ensures c.read-send.ensures
+unfolding bytes form_of send_form
+returns-5 c = line_form c.before.before.before.before.before.before.before.before.before.before.before.before.before.before.before.before.before.before.before.before.args.s.now c.before.before.before.before.before.before.before.before.before.before.before.before.before.before.before.before.before.before.field-end.ensures send_form (alone (send_form.call [])) c.before.before.word-is5.ensures c.before.if5.true c.before.before.before.before.before.before.before.before.before.before.before.before.before.before.before.before.after-field.ensures c.read-send.ensures
 
 slice-aggregate-word-is-6 : tie.Need-slice-aggregate-word-is-6
 slice-aggregate-word-is-6 c = search rules
@@ -96,8 +96,8 @@ read-settle-requires : tie.Need-read-settle-requires
 read-settle-requires c κs = search rules
 
 returns-6 : tie.Need-returns-6
-unfolding bytes form_of settleForm
-returns-6 c = line-form c.before.before.before.before.before.before.before.before.before.before.before.before.before.before.before.before.before.before.before.before.before.before.before.args.s.now c.before.before.before.before.before.before.before.before.before.before.before.before.before.before.before.before.before.before.before.before.before.field-end.ensures settleForm (alone (settleForm.call [])) c.before.before.word-is6.ensures c.before.if6.true c.before.before.before.before.before.before.before.before.before.before.before.before.before.before.before.before.before.before.before.after-field.ensures c.read-settle.ensures
+unfolding bytes form_of settle_form
+returns-6 c = line_form c.before.before.before.before.before.before.before.before.before.before.before.before.before.before.before.before.before.before.before.before.before.before.before.args.s.now c.before.before.before.before.before.before.before.before.before.before.before.before.before.before.before.before.before.before.before.before.before.field-end.ensures settle_form (alone (settle_form.call [])) c.before.before.word-is6.ensures c.before.if6.true c.before.before.before.before.before.before.before.before.before.before.before.before.before.before.before.before.before.before.before.after-field.ensures c.read-settle.ensures
 
 slice-aggregate-word-is-7 : tie.Need-slice-aggregate-word-is-7
 slice-aggregate-word-is-7 c = search rules
@@ -109,8 +109,8 @@ read-grant-requires : tie.Need-read-grant-requires
 read-grant-requires c κs = search rules
 
 returns-7 : tie.Need-returns-7
-unfolding bytes form_of grantForm
-returns-7 c = line-form c.before.before.before.before.before.before.before.before.before.before.before.before.before.before.before.before.before.before.before.before.before.before.before.before.before.before.args.s.now c.before.before.before.before.before.before.before.before.before.before.before.before.before.before.before.before.before.before.before.before.before.before.before.before.field-end.ensures grantForm (alone (grantForm.call [])) c.before.before.word-is7.ensures c.before.if7.true c.before.before.before.before.before.before.before.before.before.before.before.before.before.before.before.before.before.before.before.before.before.before.after-field.ensures c.read-grant.ensures
+unfolding bytes form_of grant_form
+returns-7 c = line_form c.before.before.before.before.before.before.before.before.before.before.before.before.before.before.before.before.before.before.before.before.before.before.before.before.before.before.args.s.now c.before.before.before.before.before.before.before.before.before.before.before.before.before.before.before.before.before.before.before.before.before.before.before.before.field-end.ensures grant_form (alone (grant_form.call [])) c.before.before.word-is7.ensures c.before.if7.true c.before.before.before.before.before.before.before.before.before.before.before.before.before.before.before.before.before.before.before.before.before.before.after-field.ensures c.read-grant.ensures
 
 slice-aggregate-word-is-8 : tie.Need-slice-aggregate-word-is-8
 slice-aggregate-word-is-8 c = search rules
@@ -122,8 +122,8 @@ read-sign-requires : tie.Need-read-sign-requires
 read-sign-requires c κs = search rules
 
 returns-8 : tie.Need-returns-8
-unfolding bytes form_of signForm
-returns-8 c = line-form c.before.before.before.before.before.before.before.before.before.before.before.before.before.before.before.before.before.before.before.before.before.before.before.before.before.before.before.before.before.args.s.now c.before.before.before.before.before.before.before.before.before.before.before.before.before.before.before.before.before.before.before.before.before.before.before.before.before.before.before.field-end.ensures signForm (alone (signForm.call [])) c.before.before.word-is8.ensures c.before.if8.true c.before.before.before.before.before.before.before.before.before.before.before.before.before.before.before.before.before.before.before.before.before.before.before.before.before.after-field.ensures c.read-sign.ensures
+unfolding bytes form_of sign_form
+returns-8 c = line_form c.before.before.before.before.before.before.before.before.before.before.before.before.before.before.before.before.before.before.before.before.before.before.before.before.before.before.before.before.before.args.s.now c.before.before.before.before.before.before.before.before.before.before.before.before.before.before.before.before.before.before.before.before.before.before.before.before.before.before.before.field-end.ensures sign_form (alone (sign_form.call [])) c.before.before.word-is8.ensures c.before.if8.true c.before.before.before.before.before.before.before.before.before.before.before.before.before.before.before.before.before.before.before.before.before.before.before.before.before.after-field.ensures c.read-sign.ensures
 
 slice-aggregate-word-is-9 : tie.Need-slice-aggregate-word-is-9
 slice-aggregate-word-is-9 c = search rules
@@ -135,11 +135,11 @@ read-trace-requires : tie.Need-read-trace-requires
 read-trace-requires c κs = search rules
 
 returns-9 : tie.Need-returns-9
-unfolding bytes form_of traceForm
-returns-9 c = line-form c.before.before.before.before.before.before.before.before.before.before.before.before.before.before.before.before.before.before.before.before.before.before.before.before.before.before.before.before.before.before.before.before.args.s.now c.before.before.before.before.before.before.before.before.before.before.before.before.before.before.before.before.before.before.before.before.before.before.before.before.before.before.before.before.before.before.field-end.ensures traceForm (alone (traceForm.call [])) c.before.before.word-is9.ensures c.before.if9.true c.before.before.before.before.before.before.before.before.before.before.before.before.before.before.before.before.before.before.before.before.before.before.before.before.before.before.before.before.after-field.ensures c.read-trace.ensures
+unfolding bytes form_of trace_form
+returns-9 c = line_form c.before.before.before.before.before.before.before.before.before.before.before.before.before.before.before.before.before.before.before.before.before.before.before.before.before.before.before.before.before.before.before.before.args.s.now c.before.before.before.before.before.before.before.before.before.before.before.before.before.before.before.before.before.before.before.before.before.before.before.before.before.before.before.before.before.before.field-end.ensures trace_form (alone (trace_form.call [])) c.before.before.word-is9.ensures c.before.if9.true c.before.before.before.before.before.before.before.before.before.before.before.before.before.before.before.before.before.before.before.before.before.before.before.before.before.before.before.before.after-field.ensures c.read-trace.ensures
 
 returns-10 : tie.Need-returns-10
-unfolding any bytes forms depositForm claimForm transferForm withdrawForm sendForm settleForm grantForm signForm traceForm
+unfolding any bytes forms deposit_form claim_form transfer_form withdraw_form send_form settle_form grant_form sign_form trace_form
 returns-10 c = sym (line-none c.before.before.before.before.before.before.before.before.before.before.before.before.before.before.before.before.before.before.before.before.before.before.before.before.before.before.before.before.before.before.before.args.s.now c.before.before.before.before.before.before.before.before.before.before.before.before.before.before.before.before.before.before.before.before.before.before.before.before.before.before.before.before.before.field-end.ensures (rw (sym c.before.before.before.before.before.before.before.before.before.before.before.before.before.before.before.before.before.before.before.before.before.before.before.before.before.word-is.ensures ∙ c.before.before.before.before.before.before.before.before.before.before.before.before.before.before.before.before.before.before.before.before.before.before.before.before.if1.false, sym c.before.before.before.before.before.before.before.before.before.before.before.before.before.before.before.before.before.before.before.before.before.before.word-is2.ensures ∙ c.before.before.before.before.before.before.before.before.before.before.before.before.before.before.before.before.before.before.before.before.before.if2.false, sym c.before.before.before.before.before.before.before.before.before.before.before.before.before.before.before.before.before.before.before.word-is3.ensures ∙ c.before.before.before.before.before.before.before.before.before.before.before.before.before.before.before.before.before.before.if3.false, sym c.before.before.before.before.before.before.before.before.before.before.before.before.before.before.before.before.word-is4.ensures ∙ c.before.before.before.before.before.before.before.before.before.before.before.before.before.before.before.if4.false, sym c.before.before.before.before.before.before.before.before.before.before.before.before.before.word-is5.ensures ∙ c.before.before.before.before.before.before.before.before.before.before.before.before.if5.false, sym c.before.before.before.before.before.before.before.before.before.before.word-is6.ensures ∙ c.before.before.before.before.before.before.before.before.before.if6.false, sym c.before.before.before.before.before.before.before.word-is7.ensures ∙ c.before.before.before.before.before.before.if7.false, sym c.before.before.before.before.word-is8.ensures ∙ c.before.before.before.if8.false, sym c.before.word-is9.ensures ∙ c.if9.false)))
 
 pub read-whole-spec : {M : Type 1} → statement M

@@ -1,6 +1,6 @@
 -- `read::read_withdraw`: the form's call, or the field that does not read.
 use mathlib.Core.Path.{sym, ap, ◌∙◌}
-use Rattle.rules.specs.Lines.{withdrawForm, formed}
+use Rattle.rules.specs.Lines.{withdraw_form, formed}
 use Rattle.lines.specs.Reading.{four}
 use borrow.Author.Rules.{rules}
 use Rattle.lines.proofs.read.read_withdraw.Statement.{statement}
@@ -16,12 +16,12 @@ enum-known-j : tie.Need-enum-known-j
 enum-known-j c = search rules
 
 returns : tie.Need-returns
-unfolding formed withdrawForm four
-returns c = ap (formed withdrawForm) (sym (ap four c.before.member.given.1) ∙ c.before.before.before.four-fields.ensures)
+unfolding formed withdraw_form four
+returns c = ap (formed withdraw_form) (sym (ap four c.before.member.given.1) ∙ c.before.before.before.four-fields.ensures)
 
 returns-2 : tie.Need-returns-2
 unfolding formed four
-returns-2 c = ap (formed withdrawForm) (sym (ap four c.before.j.given.1) ∙ c.before.before.before.four-fields.ensures)
+returns-2 c = ap (formed withdraw_form) (sym (ap four c.before.j.given.1) ∙ c.before.before.before.four-fields.ensures)
 
 pub read-withdraw-spec : {M : Type 1} → statement M
 read-withdraw-spec =

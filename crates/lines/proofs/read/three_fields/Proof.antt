@@ -1,8 +1,8 @@
 -- `read::three_fields`: one number after the other, and then the last.
 use mathlib.Core.Path.{sym, ap, ◌∙◌}
-use Rattle.rules.specs.Lines.{andRead}
+use Rattle.rules.specs.Lines.{and_read}
 use Rattle.lines.specs.Reading.{one, three}
-use Rattle.lines.proofs.LineLaws.{not-read, one_more}
+use Rattle.lines.proofs.LineLaws.{not_read, one_more}
 use borrow.Author.Rules.{rules}
 use Rattle.lines.proofs.read.three_fields.Statement.{statement}
 use Rattle.lines.proofs.read.three_fields.Tie as tie
@@ -18,7 +18,7 @@ enum_told c = search rules
 
 returns : tie.Need-returns
 unfolding three
-returns c = not-read 1 2 _ (sym c.before.before.next_field.ensures ∙ c.enum_told.given.1)
+returns c = not_read 1 2 _ (sym c.before.before.next_field.ensures ∙ c.enum_told.given.1)
 
 after-field-requires : tie.Need-after-field-requires
 after-field-requires c κs = search rules
@@ -33,8 +33,8 @@ enum-told-2 : tie.Need-enum-told-2
 enum-told-2 c = search rules
 
 returns-2 : tie.Need-returns-2
-unfolding three andRead
-returns-2 c = one_more 1 2 _ (sym c.before.before.before.before.before.before.before.next_field.ensures ∙ c.before.before.before.before.before.first.given.1) c.before.before.before.after-field.ensures (not-read 2 1 _ (sym c.before.before.next-field2.ensures ∙ c.enum-told2.given.1))
+unfolding three and_read
+returns-2 c = one_more 1 2 _ (sym c.before.before.before.before.before.before.before.next_field.ensures ∙ c.before.before.before.before.before.first.given.1) c.before.before.before.after-field.ensures (not_read 2 1 _ (sym c.before.before.next-field2.ensures ∙ c.enum-told2.given.1))
 
 after-field-requires-2 : tie.Need-after-field-requires-2
 after-field-requires-2 c κs = search rules
@@ -49,11 +49,11 @@ enum-known-j : tie.Need-enum-known-j
 enum-known-j c = search rules
 
 returns-3 : tie.Need-returns-3
-unfolding three one andRead
+unfolding three one and_read
 returns-3 c = one_more 1 2 _ (sym c.before.before.before.before.before.before.before.before.before.before.before.before.before.next_field.ensures ∙ c.before.before.before.before.before.before.before.before.before.before.before.first.given.1) c.before.before.before.before.before.before.before.before.before.after-field.ensures (one_more 2 1 _ (sym c.before.before.before.before.before.before.before.before.next-field2.ensures ∙ c.before.before.before.before.before.before.second.given.1) c.before.before.before.before.after-field2.ensures (sym (ap one c.before.third.given.1) ∙ c.before.before.before.last-field.ensures))
 
 returns-4 : tie.Need-returns-4
-unfolding three one andRead
+unfolding three one and_read
 returns-4 c = one_more 1 2 _ (sym c.before.before.before.before.before.before.before.before.before.before.before.before.before.next_field.ensures ∙ c.before.before.before.before.before.before.before.before.before.before.before.first.given.1) c.before.before.before.before.before.before.before.before.before.after-field.ensures (one_more 2 1 _ (sym c.before.before.before.before.before.before.before.before.next-field2.ensures ∙ c.before.before.before.before.before.before.second.given.1) c.before.before.before.before.after-field2.ensures (sym (ap one c.before.j.given.1) ∙ c.before.before.before.last-field.ensures))
 
 pub three-fields-spec : {M : Type 1} → statement M

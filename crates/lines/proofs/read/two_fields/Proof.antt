@@ -1,8 +1,8 @@
 -- `read::two_fields`: one number after the other, and then the last.
 use mathlib.Core.Path.{sym, ap, ◌∙◌}
-use Rattle.rules.specs.Lines.{andRead}
+use Rattle.rules.specs.Lines.{and_read}
 use Rattle.lines.specs.Reading.{one, two}
-use Rattle.lines.proofs.LineLaws.{not-read, one_more}
+use Rattle.lines.proofs.LineLaws.{not_read, one_more}
 use borrow.Author.Rules.{rules}
 use Rattle.lines.proofs.read.two_fields.Statement.{statement}
 use Rattle.lines.proofs.read.two_fields.Tie as tie
@@ -18,7 +18,7 @@ enum_told c = search rules
 
 returns : tie.Need-returns
 unfolding two
-returns c = not-read 1 1 _ (sym c.before.before.next_field.ensures ∙ c.enum_told.given.1)
+returns c = not_read 1 1 _ (sym c.before.before.next_field.ensures ∙ c.enum_told.given.1)
 
 after-field-requires : tie.Need-after-field-requires
 after-field-requires c κs = search rules
@@ -33,11 +33,11 @@ enum-known-j : tie.Need-enum-known-j
 enum-known-j c = search rules
 
 returns-2 : tie.Need-returns-2
-unfolding two one andRead
+unfolding two one and_read
 returns-2 c = one_more 1 1 _ (sym c.before.before.before.before.before.before.before.before.next_field.ensures ∙ c.before.before.before.before.before.before.first.given.1) c.before.before.before.before.after-field.ensures (sym (ap one c.before.second.given.1) ∙ c.before.before.before.last-field.ensures)
 
 returns-3 : tie.Need-returns-3
-unfolding two one andRead
+unfolding two one and_read
 returns-3 c = one_more 1 1 _ (sym c.before.before.before.before.before.before.before.before.next_field.ensures ∙ c.before.before.before.before.before.before.first.given.1) c.before.before.before.before.after-field.ensures (sym (ap one c.before.j.given.1) ∙ c.before.before.before.last-field.ensures)
 
 pub two-fields-spec : {M : Type 1} → statement M

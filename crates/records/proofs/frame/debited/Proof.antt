@@ -1,6 +1,6 @@
 use native.Mathlib.Omega.{arith}
 use Rattle.rules.specs.Effects.{debit}
-use Rattle.records.proofs.Following.{balance-in}
+use Rattle.records.proofs.Following.{balance_in}
 use borrow.Author.Rules.{rules}
 use Rattle.records.proofs.frame.debited.Statement.{statement}
 use Rattle.records.proofs.frame.debited.Tie as tie
@@ -24,7 +24,7 @@ element-copy-out-old : tie.Need-element-copy-out-old
 element-copy-out-old c = search rules
 
 sub-balances : tie.Need-overflow-sub-balances
-sub-balances c = omega (arith, c.before.requires, balance-in c.before.args.balances.now c.before.args.m c.before.args.a c.before.requires.0)
+sub-balances c = omega (arith, c.before.requires, balance_in c.before.args.balances.now c.before.args.m c.before.args.a c.before.requires.0)
 
 mul-balances : tie.Need-overflow-mul-balances
 mul-balances c = search rules
@@ -34,7 +34,7 @@ element-write-balances c = search rules
 
 returns : tie.Need-returns
 unfolding debit
-returns c = rw (balance-in c.before.args.balances.now c.before.args.m c.before.args.a c.before.requires.0)
+returns c = rw (balance_in c.before.args.balances.now c.before.args.m c.before.args.a c.before.requires.0)
 
 pub debited-spec : {M : Type 1} → statement M
 debited-spec =

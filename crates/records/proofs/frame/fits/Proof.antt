@@ -1,6 +1,6 @@
 use Rattle.rules.specs.History.{fits_as}
 use Rattle.rules.specs.Effects.{holder}
-use Rattle.records.proofs.KindNumbers.{is-claim, is-transfer, is-withdrawal, is-grant, is-other}
+use Rattle.records.proofs.KindNumbers.{is_claim_lem, is_transfer, is_withdrawal_lem, is_grant, is_other_lem}
 use borrow.Author.Rules.{rules}
 use Rattle.records.proofs.frame.fits.Statement.{statement}
 use Rattle.records.proofs.frame.fits.Tie as tie
@@ -58,23 +58,23 @@ of-eight-requires c κs = search rules
 
 returns : tie.Need-returns
 unfolding fits_as
-returns c = rw (is-claim c.before.before.before.before.before.before.before.args.r c.before.before.before.before.match.keys1, c.is_Within.ensures, c.before.is_member.ensures, c.before.before.is-amount.ensures, c.before.before.before.is-asset.ensures)
+returns c = rw (is_claim_lem c.before.before.before.before.before.before.before.args.r c.before.before.before.before.match.keys1, c.is_within.ensures, c.before.is_member.ensures, c.before.before.is-amount.ensures, c.before.before.before.is-asset.ensures)
 
 returns-2 : tie.Need-returns-2
 unfolding fits_as
-returns-2 c = rw (is-transfer c.before.before.before.before.before.before.before.before.args.r c.before.before.before.before.before.match.keys2, c.before.is-member3.ensures, c.before.before.is-member2.ensures, c.before.before.before.is-amount2.ensures, c.before.before.before.before.is-asset2.ensures, c.before.before.before.before.before.before.before.balance-of.ensures)
+returns-2 c = rw (is_transfer c.before.before.before.before.before.before.before.before.args.r c.before.before.before.before.before.match.keys2, c.before.is-member3.ensures, c.before.before.is-member2.ensures, c.before.before.before.is-amount2.ensures, c.before.before.before.before.is-asset2.ensures, c.before.before.before.before.before.before.before.balance-of.ensures)
 
 returns-3 : tie.Need-returns-3
 unfolding fits_as
-returns-3 c = rw (is-withdrawal c.before.before.before.before.before.before.before.args.r c.before.before.before.before.match.keys3, c.is-payee.ensures, c.before.is-member4.ensures, c.before.before.is-amount3.ensures, c.before.before.before.is-asset3.ensures, c.before.before.before.before.before.before.balance-of.ensures)
+returns-3 c = rw (is_withdrawal_lem c.before.before.before.before.before.before.before.args.r c.before.before.before.before.match.keys3, c.is-payee.ensures, c.before.is-member4.ensures, c.before.before.is-amount3.ensures, c.before.before.before.is-asset3.ensures, c.before.before.before.before.before.before.balance-of.ensures)
 
 returns-4 : tie.Need-returns-4
 unfolding fits_as holder
-returns-4 c = rw (is-grant c.before.before.before.before.before.before.before.before.before.before.args.r c.before.before.before.before.before.before.before.match.keys4, c.before.of-eight.ensures, c.before.before.before.is-member6.ensures, c.before.before.before.before.is-member5.ensures, c.before.before.before.before.before.before.is-domain.ensures)
+returns-4 c = rw (is_grant c.before.before.before.before.before.before.before.before.before.before.args.r c.before.before.before.before.before.before.before.match.keys4, c.before.of-eight.ensures, c.before.before.before.is-member6.ensures, c.before.before.before.before.is-member5.ensures, c.before.before.before.before.before.before.is-domain.ensures)
 
 returns-5 : tie.Need-returns-5
 unfolding fits_as
-returns-5 c = rw (is-other c.before.before.before.args.r c.match.rest.0.0.0.1 c.match.rest.0.0.1 c.match.rest.0.1 c.match.rest.1)
+returns-5 c = rw (is_other_lem c.before.before.before.args.r c.match.rest.0.0.0.1 c.match.rest.0.0.1 c.match.rest.0.1 c.match.rest.1)
 
 pub fits-spec : {M : Type 1} → statement M
 fits-spec =

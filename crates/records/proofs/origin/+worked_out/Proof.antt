@@ -1,6 +1,6 @@
 use native.Mathlib.Omega.{arith}
 use Rattle.rules.specs.History.{counted}
-use Rattle.records.proofs.Counting.{nothing_left, can-go-back, can-count, counted-last}
+use Rattle.records.proofs.Counting.{nothing_left, can_go_back, can_count, counted-last}
 use Prim.Native.Nat.{ℕ, ◌<◌}
 use borrow.Fn.Kinds.{In}
 use borrow.Fn.PlainCycle.{Measures, is, falls, and}
@@ -53,7 +53,7 @@ worked-out-worked-out-requires : (t : ℕ) → worked-out-lts.Need-worked-out-re
 ) (worked-out-at t) worked-out.Post
 worked-out-worked-out-requires t c κs =
     let s = c.before.before in
-    (omega (arith, s.requires.0, c.if1.false), can-go-back s.args.history.now s.args.left s.requires.1 (omega (arith, c.if1.false)))
+    (omega (arith, s.requires.0, c.if1.false), can_go_back s.args.history.now s.args.left s.requires.1 (omega (arith, c.if1.false)))
 
 worked-out-sub-record-at : (t : ℕ) → worked-out-lts.Need-overflow-sub-record-at (
   worked-out-below t,
@@ -85,7 +85,7 @@ worked-out-counted-requires : (t : ℕ) → worked-out-lts.Need-counted-requires
 ) (worked-out-at t) worked-out.Post
 worked-out-counted-requires t c κs =
     let s = c.before.before.before.before in
-    rw (c.record-at.ensures, c.before.worked-out.ensures) (can-count s.args.history.now s.args.left s.requires.1 (omega (arith, c.before.before.if1.false)) s.args.member s.args.asset)
+    rw (c.record-at.ensures, c.before.worked-out.ensures) (can_count s.args.history.now s.args.left s.requires.1 (omega (arith, c.before.before.if1.false)) s.args.member s.args.asset)
 
 worked-out-returns-2 : (t : ℕ) → worked-out-lts.Need-returns-2 (
   worked-out-below t,

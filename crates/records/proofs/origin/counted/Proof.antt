@@ -1,6 +1,6 @@
 use native.Mathlib.Omega.{arith}
-use Rattle.rules.specs.History.{countedAs}
-use Rattle.records.proofs.KindNumbers.{is-claim, is-transfer, is-withdrawal, is-grant, is-other}
+use Rattle.rules.specs.History.{counted_as}
+use Rattle.records.proofs.KindNumbers.{is_claim_lem, is_transfer, is_withdrawal_lem, is_grant, is_other_lem}
 use borrow.Author.Rules.{rules}
 use Rattle.records.proofs.origin.counted.Statement.{statement}
 use Rattle.records.proofs.origin.counted.Tie as tie
@@ -18,40 +18,40 @@ sub-result-2 : tie.Need-overflow-sub-result-2
 sub-result-2 c = omega (arith, c.before.before.before.before.before.before.before.requires.paid c.before.before.match.keys3 c.before.if4.true)
 
 returns : tie.Need-returns
-unfolding countedAs
-returns c = rw (is-claim c.before.before.before.before.before.before.before.args.r c.before.before.match.keys1, c.before.if1.true)
+unfolding counted_as
+returns c = rw (is_claim_lem c.before.before.before.before.before.before.before.args.r c.before.before.match.keys1, c.before.if1.true)
 
 returns-2 : tie.Need-returns-2
-unfolding countedAs
-returns-2 c = rw (is-claim c.before.before.before.before.before.before.args.r c.before.match.keys1, c.if1.false)
+unfolding counted_as
+returns-2 c = rw (is_claim_lem c.before.before.before.before.before.before.args.r c.before.match.keys1, c.if1.false)
 
 returns-3 : tie.Need-returns-3
-unfolding countedAs
-returns-3 c = rw (is-transfer c.before.before.before.before.before.before.before.args.r c.before.before.match.keys2, c.before.if2.true)
+unfolding counted_as
+returns-3 c = rw (is_transfer c.before.before.before.before.before.before.before.args.r c.before.before.match.keys2, c.before.if2.true)
 
 returns-4 : tie.Need-returns-4
-unfolding countedAs
-returns-4 c = rw (is-transfer c.before.before.before.before.before.before.before.before.args.r c.before.before.before.match.keys2, c.before.before.if2.false, c.before.if3.true)
+unfolding counted_as
+returns-4 c = rw (is_transfer c.before.before.before.before.before.before.before.before.args.r c.before.before.before.match.keys2, c.before.before.if2.false, c.before.if3.true)
 
 returns-5 : tie.Need-returns-5
-unfolding countedAs
-returns-5 c = rw (is-transfer c.before.before.before.before.before.before.before.args.r c.before.before.match.keys2, c.before.if2.false, c.if3.false)
+unfolding counted_as
+returns-5 c = rw (is_transfer c.before.before.before.before.before.before.before.args.r c.before.before.match.keys2, c.before.if2.false, c.if3.false)
 
 returns-6 : tie.Need-returns-6
-unfolding countedAs
-returns-6 c = rw (is-withdrawal c.before.before.before.before.before.before.before.args.r c.before.before.match.keys3, c.before.if4.true)
+unfolding counted_as
+returns-6 c = rw (is_withdrawal_lem c.before.before.before.before.before.before.before.args.r c.before.before.match.keys3, c.before.if4.true)
 
 returns-7 : tie.Need-returns-7
-unfolding countedAs
-returns-7 c = rw (is-withdrawal c.before.before.before.before.before.before.args.r c.before.match.keys3, c.if4.false)
+unfolding counted_as
+returns-7 c = rw (is_withdrawal_lem c.before.before.before.before.before.before.args.r c.before.match.keys3, c.if4.false)
 
 returns-8 : tie.Need-returns-8
-unfolding countedAs
-returns-8 c = rw (is-grant c.before.before.before.before.before.args.r c.match.keys4)
+unfolding counted_as
+returns-8 c = rw (is_grant c.before.before.before.before.before.args.r c.match.keys4)
 
 returns-9 : tie.Need-returns-9
-unfolding countedAs
-returns-9 c = rw (is-other c.before.before.before.before.before.args.r c.match.rest.0.0.0.1 c.match.rest.0.0.1 c.match.rest.0.1 c.match.rest.1)
+unfolding counted_as
+returns-9 c = rw (is_other_lem c.before.before.before.before.before.args.r c.match.rest.0.0.0.1 c.match.rest.0.0.1 c.match.rest.0.1 c.match.rest.1)
 
 pub counted_spec : {M : Type 1} → statement M
 counted_spec =

@@ -4,14 +4,14 @@ use mathlib.Core.Bool.{true, not}
 use native.Mathlib.Omega.{arith}
 use lib.ListN.{length, take, drop}
 use Rattle.rules.specs.Lists.{all}
-use Rattle.runner.specs.Feeding.{noFeed}
-use Rattle.runner.proofs.Whole.{none_yet, none-block}
+use Rattle.runner.specs.Feeding.{no_feed}
+use Rattle.runner.proofs.Whole.{none_yet, none_block}
 use borrow.Author.Rules.{rules}
 use Rattle.runner.proofs.feed.blocks_without.Statement.{statement}
 use Rattle.runner.proofs.feed.blocks_without.Tie as tie
 
 abbrev invariant-loop : tie.invariant-loop
-invariant-loop s i₀ i = (i ≤ length s) × (all noFeed (take i s) ≡ true)
+invariant-loop s i₀ i = (i ≤ length s) × (all no_feed (take i s) ≡ true)
 
 abbrev decreases-loop : tie.decreases-loop
 decreases-loop s i₀ i = length s - i
@@ -52,8 +52,8 @@ loop-again c =
     let v = c.before.before.before.before.loop in
     let n = v.i + 32 - v.i in
     let e : v.i + n ≡ v.i + 32 = omega arith in
-    let f : all noFeed (take n (drop v.i a.s.now)) ≡ true = sym c.before.has-feed.ensures ∙ ap not c.if1.false in
-    (search rules, ap (λ (k : ℕ). all noFeed (take k a.s.now)) (sym e) ∙ none-block a.s.now v.i n v.invariant.1 f)
+    let f : all no_feed (take n (drop v.i a.s.now)) ≡ true = sym c.before.has-feed.ensures ∙ ap not c.if1.false in
+    (search rules, ap (λ (k : ℕ). all no_feed (take k a.s.now)) (sym e) ∙ none_block a.s.now v.i n v.invariant.1 f)
 
 returns-2 : tie.Need-returns-2 invariant-loop decreases-loop
 returns-2 c = (c.before.loop.invariant.0, c.before.loop.invariant.1)

@@ -1,5 +1,5 @@
 use Rattle.fields.proofs.FieldLaws.{from_on}
-use Rattle.runner.proofs.Whole.{feed-further}
+use Rattle.runner.proofs.Whole.{feed_further}
 use borrow.Author.Rules.{rules}
 use Rattle.runner.proofs.feed.feed_at.Statement.{statement}
 use Rattle.runner.proofs.feed.feed_at.Tie as tie
@@ -26,7 +26,7 @@ returns : tie.Need-returns
 returns c =
     let s = c.before.before.before.before.args.s.now in
     let n = c.before.before.blocks-without in
-    feed-further s n.result c.first-feed.result n.ensures.0 n.ensures.1 (from_on s n.result) c.first-feed.ensures
+    feed_further s n.result c.first-feed.result n.ensures.0 n.ensures.1 (from_on s n.result) c.first-feed.ensures
 
 pub feed-at-spec : {M : Type 1} → statement M
 feed-at-spec =

@@ -4,14 +4,14 @@ use mathlib.Core.Bool.{true}
 use native.Mathlib.Omega.{arith}
 use lib.ListN.{length, take}
 use Rattle.rules.specs.Lists.{all}
-use Rattle.runner.specs.Feeding.{noFeed}
+use Rattle.runner.specs.Feeding.{no_feed}
 use Rattle.runner.proofs.Whole.{none_yet, none_more}
 use borrow.Author.Rules.{rules}
 use Rattle.runner.proofs.feed.first_feed.Statement.{statement}
 use Rattle.runner.proofs.feed.first_feed.Tie as tie
 
 abbrev invariant-loop : tie.invariant-loop
-invariant-loop s i₀ i = (i ≤ length s) × (all noFeed (take i s) ≡ true)
+invariant-loop s i₀ i = (i ≤ length s) × (all no_feed (take i s) ≡ true)
 
 abbrev decreases-loop : tie.decreases-loop
 decreases-loop s i₀ i = length s - i

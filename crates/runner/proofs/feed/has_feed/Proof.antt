@@ -5,14 +5,14 @@ use native.Mathlib.Omega.{arith}
 use lib.ListN.{length, take}
 use lib.Seq.{take_all}
 use Rattle.rules.specs.Lists.{all}
-use Rattle.runner.specs.Feeding.{noFeed}
+use Rattle.runner.specs.Feeding.{no_feed}
 use Rattle.runner.proofs.Whole.{found_none, found-more}
 use borrow.Author.Rules.{rules}
 use Rattle.runner.proofs.feed.has_feed.Statement.{statement}
 use Rattle.runner.proofs.feed.has_feed.Tie as tie
 
 abbrev invariant-loop : tie.invariant-loop
-invariant-loop s found₀ i₀ found i = (i ≤ length s) × (not found ≡ all noFeed (take i s))
+invariant-loop s found₀ i₀ found i = (i ≤ length s) × (not found ≡ all no_feed (take i s))
 
 abbrev decreases-loop : tie.decreases-loop
 decreases-loop s found₀ i₀ found i = length s - i
@@ -37,7 +37,7 @@ loop-again c =
 returns : tie.Need-returns invariant-loop decreases-loop
 returns c =
     let v = c.before.loop in
-    v.invariant.1 ∙ ap (all noFeed) (take_all v.i c.before.before.args.s.now c.loop-test.false)
+    v.invariant.1 ∙ ap (all no_feed) (take_all v.i c.before.before.args.s.now c.loop-test.false)
 
 pub has-feed-spec : {M : Type 1} → statement M
 has-feed-spec =

@@ -3,7 +3,7 @@ use mathlib.Core.Path.{◌≡◌, refl, ap, ◌∙◌}
 use native.Mathlib.Omega.{arith}
 use lib.ListN.{length, take}
 use lib.Seq.{take_all}
-use Rattle.rules.specs.Limits.{mostHeld}
+use Rattle.rules.specs.Limits.{most_held}
 use Rattle.runner.specs.Machine.{holds}
 use Rattle.runner.proofs.Parts.{held_none, held_next}
 use borrow.Author.Rules.{rules}
@@ -12,7 +12,7 @@ use Rattle.runner.proofs.feed.hold_part.Tie as tie
 
 abbrev invariant-loop : tie.invariant-loop
 invariant-loop hold₀ held part n₀ k₀ hold n k =
-    (k ≤ length part) × (take n hold ≡ holds (take held hold₀) (take k part)) × (n ≤ mostHeld) × (length hold ≡ length hold₀)
+    (k ≤ length part) × (take n hold ≡ holds (take held hold₀) (take k part)) × (n ≤ most_held) × (length hold ≡ length hold₀)
 
 abbrev decreases-loop : tie.decreases-loop
 decreases-loop hold₀ held part n₀ k₀ hold n k = length part - k

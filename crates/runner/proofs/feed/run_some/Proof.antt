@@ -8,15 +8,15 @@ use lib.ListN.{length}
 use lib.Seq.{length-take-le}
 use borrow.Author.Tests.{leb-false}
 use Rattle.rules.specs.State.{Book}
-use Rattle.rules.specs.Answer.{bookOf}
+use Rattle.rules.specs.Answer.{book_of}
 use Rattle.fields.proofs.FieldLaws.{from_on}
 use Rattle.pages.specs.Writing.{Page, page}
 use Rattle.runner.specs.declared.running.After.{After}
 use Rattle.runner.specs.declared.running.Heard.{Heard}
-use Rattle.runner.specs.Running.{runningOf, Hears}
-use Rattle.runner.specs.Feeding.{feedingOf, fedMachine}
-use Rattle.runner.proofs.Answering.{due-accepted, said-leaves, due-leaves, line-answered, line-counted, Turned, turned_as}
-use Rattle.runner.proofs.Parts.{SoFar, so-begun, so-stopped, so-held, so-line, so-some, rest-length}
+use Rattle.runner.specs.Running.{running_of, Hears}
+use Rattle.runner.specs.Feeding.{feeding_of, fed_machine}
+use Rattle.runner.proofs.Answering.{due-accepted, said_leaves, due-leaves, line-answered, line-counted, Turned, turned_as}
+use Rattle.runner.proofs.Parts.{SoFar, so_begun, so_stopped, so_held, so_line, so_some, rest_length}
 use borrow.Author.Rules.{rules}
 use Rattle.runner.proofs.feed.run_some.Statement.{statement}
 use Rattle.runner.proofs.feed.run_some.Tie as tie
@@ -40,7 +40,7 @@ some-moved (suc k) n n₀ at at₀ e z h r = omega arith
 
 abbrev invariant-loop : tie.invariant-loop
 invariant-loop inbox₀ outbox₀ history₀ hold₀ out₀ chunk desk₀ w₀ held₀ k₀ inbox outbox history hold out desk w held k =
-    SoFar (fedMachine (feedingOf desk₀ w₀ held₀) inbox₀ outbox₀ history₀ hold₀) chunk out₀ w₀.at k (feedingOf desk w held) inbox outbox history hold out
+    SoFar (fed_machine (feeding_of desk₀ w₀ held₀) inbox₀ outbox₀ history₀ hold₀) chunk out₀ w₀.at k (feeding_of desk w held) inbox outbox history hold out
     × (length inbox ≡ length inbox₀)
     × (length outbox ≡ length outbox₀)
     × (length history ≡ length history₀)
@@ -52,22 +52,22 @@ abbrev decreases-loop : tie.decreases-loop
 decreases-loop inbox₀ outbox₀ history₀ hold₀ out₀ chunk desk₀ w₀ held₀ k₀ inbox outbox history hold out desk w held k = length chunk - k
 
 -- what the line comes to, of the book as it lies in the desk and the tables
-heard : (c : tie.After-hear invariant-loop decreases-loop) {x : Heard} → c.hear.result ≡ x → Hears (bookOf c.before.before.before.before.before.before.before.before.before.before.before.before.before.before.before.before.before.before.before.before.before.before.before.loop.desk c.before.before.before.before.before.before.before.before.before.before.before.before.before.before.before.before.before.before.before.before.before.before.before.loop.inbox c.before.before.before.before.before.before.before.before.before.before.before.before.before.before.before.before.before.before.before.before.before.before.before.loop.outbox c.before.before.before.before.before.before.before.before.before.before.before.before.before.before.before.before.before.before.before.before.before.before.before.loop.history) c.before.before.before.before.before.before.before.before.before.before.before.before.whole-line.result x
+heard : (c : tie.After-hear invariant-loop decreases-loop) {x : Heard} → c.hear.result ≡ x → Hears (book_of c.before.before.before.before.before.before.before.before.before.before.before.before.before.before.before.before.before.before.before.before.before.before.before.loop.desk c.before.before.before.before.before.before.before.before.before.before.before.before.before.before.before.before.before.before.before.before.before.before.before.loop.inbox c.before.before.before.before.before.before.before.before.before.before.before.before.before.before.before.before.before.before.before.before.before.before.before.loop.outbox c.before.before.before.before.before.before.before.before.before.before.before.before.before.before.before.before.before.before.before.before.before.before.before.loop.history) c.before.before.before.before.before.before.before.before.before.before.before.before.whole-line.result x
 heard c e =
     let v = c.before.before.before.before.before.before.before.before.before.before.before.before.before.before.before.before.before.before.before.before.before.before.before.loop in
     let l = c.before.before.before.before.before.before.before.before.before.before.before.before.whole-line.result in
-    subst (Hears (bookOf v.desk v.inbox v.outbox v.history) l) e c.hear.ensures
+    subst (Hears (book_of v.desk v.inbox v.outbox v.history) l) e c.hear.ensures
 
 -- and what the turn leaves, whichever of the two it is
-turned : (c : tie.At-match-branch invariant-loop decreases-loop) → Turned (bookOf c.before.before.before.before.before.before.before.before.before.before.before.before.before.before.before.before.before.before.before.before.before.before.before.before.loop.desk c.before.before.before.before.before.before.before.before.before.before.before.before.before.before.before.before.before.before.before.before.before.before.before.before.loop.inbox c.before.before.before.before.before.before.before.before.before.before.before.before.before.before.before.before.before.before.before.before.before.before.before.before.loop.outbox c.before.before.before.before.before.before.before.before.before.before.before.before.before.before.before.before.before.before.before.before.before.before.before.before.loop.history) c.before.before.before.before.before.before.before.before.before.before.before.before.before.whole-line.result c.before.before.before.before.before.before.before.before.before.before.before.before.before.before.before.before.before.before.before.before.before.before.before.before.loop.w c.before.before.before.before.before.before.before.before.before.before.before.before.before.before.before.before.before.before.before.before.before.before.before.before.loop.out (record { desk = c.match.desk; written = c.match.w }) c.match.inbox c.match.outbox c.match.history c.match.out
+turned : (c : tie.At-match-branch invariant-loop decreases-loop) → Turned (book_of c.before.before.before.before.before.before.before.before.before.before.before.before.before.before.before.before.before.before.before.before.before.before.before.before.loop.desk c.before.before.before.before.before.before.before.before.before.before.before.before.before.before.before.before.before.before.before.before.before.before.before.before.loop.inbox c.before.before.before.before.before.before.before.before.before.before.before.before.before.before.before.before.before.before.before.before.before.before.before.before.loop.outbox c.before.before.before.before.before.before.before.before.before.before.before.before.before.before.before.before.before.before.before.before.before.before.before.before.loop.history) c.before.before.before.before.before.before.before.before.before.before.before.before.before.whole-line.result c.before.before.before.before.before.before.before.before.before.before.before.before.before.before.before.before.before.before.before.before.before.before.before.before.loop.w c.before.before.before.before.before.before.before.before.before.before.before.before.before.before.before.before.before.before.before.before.before.before.before.before.loop.out (record { desk = c.match.desk; written = c.match.w }) c.match.inbox c.match.outbox c.match.history c.match.out
 turned c =
     let v = c.before.before.before.before.before.before.before.before.before.before.before.before.before.before.before.before.before.before.before.before.before.before.before.before.loop in
     let l = c.before.before.before.before.before.before.before.before.before.before.before.before.before.whole-line.result in
-    let b : Book = bookOf v.desk v.inbox v.outbox v.history in
+    let b : Book = book_of v.desk v.inbox v.outbox v.history in
     let p : Page = page v.out v.w.at in
     ⊎_elim
     (λ s. turned_as b l v.w v.out s.7 s.8 s.9 s.10 s.11 s.12
-    (record { leaves = said-leaves v.desk v.w v.inbox v.outbox v.history l _ p s.4.result s.4.last.1.0 (heard c.before s.1.given.1) s.4.ensures.0 s.4.ensures.1.0 s.4.ensures.1.1; inbox = refl; outbox = refl; history = refl; page = s.5.given }))
+    (record { leaves = said_leaves v.desk v.w v.inbox v.outbox v.history l _ p s.4.result s.4.last.1.0 (heard c.before s.1.given.1) s.4.ensures.0 s.4.ensures.1.0 s.4.ensures.1.1; inbox = refl; outbox = refl; history = refl; page = s.5.given }))
     (λ s. turned_as b l v.w v.out s.18 s.19 s.20 s.21 s.22 s.23
     (record { leaves = due-leaves b l _ v.w p s.7.result _ _ _ _ (heard c.before s.1.given.1) s.7.ensures; inbox = s.8.given; outbox = s.10.given; history = s.12.given; page = s.14.given }))
     c.match.branch
@@ -75,7 +75,7 @@ turned c =
 loop-holds : tie.Need-loop-init invariant-loop decreases-loop
 loop-holds c =
     let a = c.before.before.before.before.before.before.before.before.before.args in
-    (so-begun a.f a.inbox.now a.outbox.now a.history.now a.hold.now a.out.now a.chunk.now c.before.before.before.before.before.before.before.before.before.requires.0 c.before.before.before.before.before.before.before.before.before.requires.1, refl, refl, refl, refl, refl, λ z. refl)
+    (so_begun a.f a.inbox.now a.outbox.now a.history.now a.hold.now a.out.now a.chunk.now c.before.before.before.before.before.before.before.before.before.requires.0 c.before.before.before.before.before.before.before.before.before.requires.1, refl, refl, refl, refl, refl, λ z. refl)
 
 has-room-requires : tie.Need-has-room-requires invariant-loop decreases-loop
 has-room-requires c κs = search rules
@@ -102,7 +102,7 @@ returns : tie.Need-returns invariant-loop decreases-loop
 returns c =
     let a = c.before.before.before.before.before.before.before.before.before.before.before.before.before.before.args in
     let v = c.before.before.before.before.loop in
-    so-some a.f a.inbox.now a.outbox.now a.history.now a.hold.now a.out.now a.chunk.now v.k (feedingOf v.desk v.w v.held) v.inbox v.outbox v.history v.hold v.out v.invariant.0 (λ some room. some-moved v.k _ _ _ _ v.invariant.5 v.invariant.6 (no_room c.before.before.has_room.result _ _ c.before.before.has_room.ensures c.before.if1.true) room) c.so_far.result c.so_far.ensures
+    so_some a.f a.inbox.now a.outbox.now a.history.now a.hold.now a.out.now a.chunk.now v.k (feeding_of v.desk v.w v.held) v.inbox v.outbox v.history v.hold v.out v.invariant.0 (λ some room. some-moved v.k _ _ _ _ v.invariant.5 v.invariant.6 (no_room c.before.before.has_room.result _ _ c.before.before.has_room.ensures c.before.if1.true) room) c.so_far.result c.so_far.ensures
 
 so-far-requires-2 : tie.Need-so-far-requires-2 invariant-loop decreases-loop
 so-far-requires-2 c = search rules
@@ -126,7 +126,7 @@ returns-2 : tie.Need-returns-2 invariant-loop decreases-loop
 returns-2 c =
     let a = c.before.before.before.before.before.before.before.before.before.before.before.before.before.before.before.before.args in
     let v = c.before.before.before.before.before.before.loop in
-    so-some a.f a.inbox.now a.outbox.now a.history.now a.hold.now a.out.now a.chunk.now (length a.chunk.now) (feedingOf v.desk v.w v.held) v.inbox v.outbox v.history v.hold v.out (so-stopped _ _ _ _ _ _ _ _ _ _ _ v.invariant.0 c.before.if2.true) (λ some room. some) c.so-far2.result c.so-far2.ensures
+    so_some a.f a.inbox.now a.outbox.now a.history.now a.hold.now a.out.now a.chunk.now (length a.chunk.now) (feeding_of v.desk v.w v.held) v.inbox v.outbox v.history v.hold v.out (so_stopped _ _ _ _ _ _ _ _ _ _ _ v.invariant.0 c.before.if2.true) (λ some room. some) c.so-far2.result c.so-far2.ensures
 
 sub-rest : tie.Need-overflow-sub-rest invariant-loop decreases-loop
 sub-rest c = search rules
@@ -167,8 +167,8 @@ returns-3 c =
     let v = c.before.before.before.before.before.before.before.before.before.before.before.before.before.loop in
     let h = c.before.before.before.hold-part in
     let n = c.before.before.before.before.before.before.feed-at in
-    so-some a.f a.inbox.now a.outbox.now a.history.now a.hold.now a.out.now a.chunk.now (length a.chunk.now) (feedingOf v.desk v.w h.result) v.inbox v.outbox v.history h.new.0 v.out
-    (so-held _ _ _ _ _ _ _ _ _ _ _ v.invariant.0 c.before.before.before.before.before.before.before.before.if2.false (from_on a.chunk.now v.k) n.result n.ensures c.before.before.before.before.before.if3.true h.result h.new.0 (search rules) h.ensures.0 h.ensures.1) (λ some room. some) c.so-far3.result c.so-far3.ensures
+    so_some a.f a.inbox.now a.outbox.now a.history.now a.hold.now a.out.now a.chunk.now (length a.chunk.now) (feeding_of v.desk v.w h.result) v.inbox v.outbox v.history h.new.0 v.out
+    (so_held _ _ _ _ _ _ _ _ _ _ _ v.invariant.0 c.before.before.before.before.before.before.before.before.if2.false (from_on a.chunk.now v.k) n.result n.ensures c.before.before.before.before.before.if3.true h.result h.new.0 (search rules) h.ensures.0 h.ensures.1) (λ some room. some) c.so-far3.result c.so-far3.ensures
 
 slice-aggregate-whole-line : tie.Need-slice-aggregate-whole-line invariant-loop decreases-loop
 slice-aggregate-whole-line c = sym (length-take-le _ _ c.before.before.before.feed-at.ensures.within)
@@ -204,7 +204,7 @@ add-k c =
     let known = c.before.before.before.before.before.before.before.before.before.before.before.before.before.before.before.before.before.before.before.before.before.before.before.before.before.before.before.before.shared-slice-known.given in
     let i = c.before.before.before.before.before.before.before.before.before.before.before.before.before.before.before.before.if3.false in
     let v = c.before.before.before.before.before.before.before.before.before.before.before.before.before.before.before.before.before.before.before.before.before.before.before.before.loop in
-    let rest = rest-length c.before.before.before.before.before.before.before.before.before.before.before.before.before.before.before.before.before.before.before.before.before.before.before.before.before.before.before.before.before.before.before.before.before.before.args.chunk.now v.k (from_on c.before.before.before.before.before.before.before.before.before.before.before.before.before.before.before.before.before.before.before.before.before.before.before.before.before.before.before.before.before.before.before.before.before.before.args.chunk.now v.k) in
+    let rest = rest_length c.before.before.before.before.before.before.before.before.before.before.before.before.before.before.before.before.before.before.before.before.before.before.before.before.before.before.before.before.before.before.before.before.before.before.args.chunk.now v.k (from_on c.before.before.before.before.before.before.before.before.before.before.before.before.before.before.before.before.before.before.before.before.before.before.before.before.before.before.before.before.before.before.before.before.before.before.args.chunk.now v.k) in
     omega (arith, i, rest)
 
 add-k-2 : tie.Need-overflow-add-k-2 invariant-loop decreases-loop
@@ -213,7 +213,7 @@ add-k-2 c =
     let known = c.before.before.before.before.before.before.before.before.before.before.before.before.before.before.before.before.before.before.before.before.before.before.before.before.before.before.before.before.shared-slice-known.given in
     let i = c.before.before.before.before.before.before.before.before.before.before.before.before.before.before.before.before.if3.false in
     let v = c.before.before.before.before.before.before.before.before.before.before.before.before.before.before.before.before.before.before.before.before.before.before.before.before.loop in
-    let rest = rest-length c.before.before.before.before.before.before.before.before.before.before.before.before.before.before.before.before.before.before.before.before.before.before.before.before.before.before.before.before.before.before.before.before.before.before.args.chunk.now v.k (from_on c.before.before.before.before.before.before.before.before.before.before.before.before.before.before.before.before.before.before.before.before.before.before.before.before.before.before.before.before.before.before.before.before.before.before.args.chunk.now v.k) in
+    let rest = rest_length c.before.before.before.before.before.before.before.before.before.before.before.before.before.before.before.before.before.before.before.before.before.before.before.before.before.before.before.before.before.before.before.before.before.before.args.chunk.now v.k (from_on c.before.before.before.before.before.before.before.before.before.before.before.before.before.before.before.before.before.before.before.before.before.before.before.before.before.before.before.before.before.before.before.before.before.before.args.chunk.now v.k) in
     omega (arith, i, rest)
 
 loop-less : tie.Need-loop-smaller invariant-loop decreases-loop
@@ -221,7 +221,7 @@ loop-less c =
     let i = c.before.before.before.before.before.before.before.before.before.before.before.before.before.before.before.before.if3.false in
     let v = c.before.before.before.before.before.before.before.before.before.before.before.before.before.before.before.before.before.before.before.before.before.before.before.before.loop in
     let here = c.before.before.before.before.before.before.before.before.before.before.before.before.before.before.before.before.before.before.before.before.before.before.before.loop-test.true in
-    let rest = rest-length c.before.before.before.before.before.before.before.before.before.before.before.before.before.before.before.before.before.before.before.before.before.before.before.before.before.before.before.before.before.before.before.before.before.before.args.chunk.now v.k (from_on c.before.before.before.before.before.before.before.before.before.before.before.before.before.before.before.before.before.before.before.before.before.before.before.before.before.before.before.before.before.before.before.before.before.before.args.chunk.now v.k) in
+    let rest = rest_length c.before.before.before.before.before.before.before.before.before.before.before.before.before.before.before.before.before.before.before.before.before.before.before.before.before.before.before.before.before.before.before.before.before.before.args.chunk.now v.k (from_on c.before.before.before.before.before.before.before.before.before.before.before.before.before.before.before.before.before.before.before.before.before.before.before.before.before.before.before.before.before.before.before.before.before.before.args.chunk.now v.k) in
     omega (arith, i, rest, here)
 
 loop-again : tie.Need-loop-preserved invariant-loop decreases-loop
@@ -236,7 +236,7 @@ loop-again c =
     let t = turned c in
     let r : After = record { desk = m.desk; written = m.w } in
     let p : Page = page v.out v.w.at in (
-      so-line _ _ _ _ _ _ _ _ _ _ _ v.invariant.0 few room (from_on a.chunk.now v.k) n.result n.ensures c.before.before.before.before.before.before.before.before.before.before.before.before.before.before.before.before.if3.false l.result l.ensures (runningOf m.desk m.w) m.w.at m.inbox m.outbox m.history l.new.0 m.out (search rules)
+      so_line _ _ _ _ _ _ _ _ _ _ _ v.invariant.0 few room (from_on a.chunk.now v.k) n.result n.ensures c.before.before.before.before.before.before.before.before.before.before.before.before.before.before.before.before.if3.false l.result l.ensures (running_of m.desk m.w) m.w.at m.inbox m.outbox m.history l.new.0 m.out (search rules)
           (line-answered v.desk v.w v.inbox v.outbox v.history l.result p r m.inbox m.outbox m.history m.out t.leaves) t.leaves.text
           (line-counted v.desk v.w v.inbox v.outbox v.history l.result p r m.inbox m.outbox m.history m.out t.leaves v.invariant.0.ready.counted few),
       t.inbox ∙ v.invariant.1,
@@ -270,7 +270,7 @@ returns-4 c =
     let a = c.before.before.before.before.before.before.before.before.before.before.before.before.args in
     let v = c.before.before.loop in
     let end = c.before.loop-test.false in
-    so-some a.f a.inbox.now a.outbox.now a.history.now a.hold.now a.out.now a.chunk.now v.k (feedingOf v.desk v.w v.held) v.inbox v.outbox v.history v.hold v.out v.invariant.0 (λ some room. omega (arith, end, some)) c.so-far4.result c.so-far4.ensures
+    so_some a.f a.inbox.now a.outbox.now a.history.now a.hold.now a.out.now a.chunk.now v.k (feeding_of v.desk v.w v.held) v.inbox v.outbox v.history v.hold v.out v.invariant.0 (λ some room. omega (arith, end, some)) c.so-far4.result c.so-far4.ensures
 
 pub run-some-spec : {M : Type 1} → statement M
 run-some-spec =

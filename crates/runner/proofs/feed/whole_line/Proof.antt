@@ -3,9 +3,9 @@ use mathlib.Core.Path.{◌≡◌, sym, ap, ◌∙◌}
 use native.Mathlib.Omega.{arith}
 use lib.ListN.{length, take}
 use lib.Seq.{length-take-le}
-use Rattle.rules.specs.Lines.{readLine}
+use Rattle.rules.specs.Lines.{read_line}
 use Rattle.runner.specs.Machine.{holds}
-use Rattle.runner.proofs.Whole.{read-there}
+use Rattle.runner.proofs.Whole.{read_there}
 use borrow.Author.Rules.{rules}
 use Rattle.runner.proofs.feed.whole_line.Statement.{statement}
 use Rattle.runner.proofs.feed.whole_line.Tie as tie
@@ -16,7 +16,7 @@ read-line-requires c κs = search rules
 returns : tie.Need-returns
 returns c =
     let a = c.before.before.before.before.args in
-    c.read-line.ensures ∙ read-there a.part.now ∙ ap (λ (n : ℕ). readLine (holds (take n a.hold.now) a.part.now)) (sym c.before.if1.true)
+    c.read-line.ensures ∙ read_there a.part.now ∙ ap (λ (n : ℕ). read_line (holds (take n a.hold.now) a.part.now)) (sym c.before.if1.true)
 
 hold-part-requires : tie.Need-hold-part-requires
 hold-part-requires c κs = search rules
@@ -37,7 +37,7 @@ same_length : tie.Need-same-length
 same_length c = search rules
 
 returns-2 : tie.Need-returns-2
-returns-2 c = c.read-line2.ensures ∙ ap readLine c.before.before.before.before.hold-part.ensures.0
+returns-2 c = c.read-line2.ensures ∙ ap read_line c.before.before.before.before.hold-part.ensures.0
 
 pub whole-line-spec : {M : Type 1} → statement M
 whole-line-spec =

@@ -1,6 +1,6 @@
-use Rattle.rules.specs.Answer.{bookOf}
+use Rattle.rules.specs.Answer.{book_of}
 use Rattle.pages.specs.Writing.{page}
-use Rattle.runner.proofs.Answering.{step-leaves}
+use Rattle.runner.proofs.Answering.{step_leaves}
 use borrow.Author.Rules.{rules}
 use Rattle.runner.proofs.running.answer_call.Statement.{statement}
 use Rattle.runner.proofs.running.answer_call.Tie as tie
@@ -27,7 +27,7 @@ returns : tie.Need-returns
 returns c =
     let a = c.before.before.before.before.before.before.before.before.before.before.before.before.before.before.before.before.before.before.before.before.before.args in
     let t = c.before.before.before.before.before.before.before.before.before.before.before.tallied-step in
-    step-leaves (bookOf a.d a.inbox.now a.outbox.now a.history.now) a.c a.w (page a.out.now a.w.at) t.result.stepped t.result.tally t.new.1.0 t.new.1.1.0 t.new.1.1.1.0 t.new.1.1.1.1.0 t.ensures.0 t.ensures.1
+    step_leaves (book_of a.d a.inbox.now a.outbox.now a.history.now) a.c a.w (page a.out.now a.w.at) t.result.stepped t.result.tally t.new.1.0 t.new.1.1.0 t.new.1.1.1.0 t.new.1.1.1.1.0 t.ensures.0 t.ensures.1
 
 pub answer-call-spec : {M : Type 1} → statement M
 answer-call-spec =

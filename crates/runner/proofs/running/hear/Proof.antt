@@ -1,16 +1,16 @@
 -- `running::hear`: a Malformed line is told with its field; of a call, what refuses it, or that it is due.
 use mathlib.Core.Path.{sym, ◌∙◌}
 use Rattle.rules.specs.State.{Book}
-use Rattle.rules.specs.Answer.{bookOf}
-use Rattle.desk.specs.Kept.{deskWith}
-use Rattle.runner.proofs.Answering.{malformed-said, call-said, call-due}
+use Rattle.rules.specs.Answer.{book_of}
+use Rattle.desk.specs.Kept.{desk_with}
+use Rattle.runner.proofs.Answering.{malformed_said, call_said, call-due}
 use borrow.Author.Rules.{rules}
 use Rattle.runner.proofs.running.hear.Statement.{statement}
 use Rattle.runner.proofs.running.hear.Tie as tie
 
 -- the book that came
 book : tie.Start → Book
-book c = bookOf (deskWith c.args.balances.now c.args.holders.now c.args.lifetime.now c.args.settled.now c.args.counts) c.args.inbox.now c.args.outbox.now c.args.history.now
+book c = book_of (desk_with c.args.balances.now c.args.holders.now c.args.lifetime.now c.args.settled.now c.args.counts) c.args.inbox.now c.args.outbox.now c.args.history.now
 
 enum-known-l : tie.Need-enum-known-l
 enum-known-l c = search rules
@@ -28,13 +28,13 @@ returns : tie.Need-returns
 unfolding book
 returns c =
     let b : Book = book c.before.before.before.before.before.before in
-    rw c.before.l.given.1 (malformed-said b _)
+    rw c.before.l.given.1 (malformed_said b _)
 
 returns-2 : tie.Need-returns-2
 unfolding book
 returns-2 c =
     let b : Book = book c.before.before.before.before.before.before.before.before.before in
-    rw c.before.before.before.before.l2.given.1 (call-said b _ c.before.before.call-reply.result c.before.before.call-reply.ensures (sym c.before.Says-All.ensures ∙ c.if1.true))
+    rw c.before.before.before.before.l2.given.1 (call_said b _ c.before.before.call-reply.result c.before.before.call-reply.ensures (sym c.before.Says-All.ensures ∙ c.if1.true))
 
 returns-3 : tie.Need-returns-3
 unfolding book

@@ -44,7 +44,7 @@ use denote.Triple.Walked.{Stays, stay_none, stay_ref, gave_slice, walk_of, Walks
 use Rattle.rules.specs.declared.answers.Tally.{Tally}
 use Rattle.rules.specs.declared.calls.Call.{Call}
 use Rattle.rules.specs.declared.desk.Desk.{Desk}
-use Rattle.rules.specs.Answer.{bookOf, answer}
+use Rattle.rules.specs.Answer.{book_of, answer}
 use Rattle.rules.specs.Facts.{Accepted}
 use Rattle.rules.specs.Transcript.{tallied}
 use Rattle.rules.specs.contracts.answers.Tally as T
@@ -55,12 +55,12 @@ use Rattle.rules.specs.contracts.desk.Desk as Dk
 use Rattle.rules.proofs.desk.Desk.TheLaws as Dk'
 use Rattle.pages.specs.Writing.{page}
 use Rattle.steps.specs.declared.step.Stepped.{Stepped}
-use Rattle.steps.specs.Step.{repliedOf, replied}
+use Rattle.steps.specs.Step.{replied_of, replied}
 use Rattle.steps.specs.contracts.step.Stepped as Sp
 use Rattle.steps.proofs.step.Stepped.TheLaws as Sp'
 use Rattle.takings.proofs.Locals.{local, part, slice_at}
-use Rattle.steps.proofs.TwoFacts.{says_both, needs-three}
-use Rattle.steps.proofs.Values.{Tallies, machT, Desks, machK, Calls, machC, Results, machS, Loan, loan-of, lent, sv, pv, token, last-slice}
+use Rattle.steps.proofs.TwoFacts.{says_both, needs_three}
+use Rattle.steps.proofs.Values.{Tallies, mach_t, Desks, mach_k, Calls, mach_c, Results, mach_s, Loan, loan_of, lent, sv, pv, token, last_slice}
 use Rattle.steps.proofs.StepCalls.{StepDone, steps-done}
 use Rattle.steps.proofs.step.step_done.Symbol as step-done-def
 use Rattle.steps.proofs.step.step_done.Symbol.{name as #step-done}
@@ -94,16 +94,16 @@ module _ {M : Type 1} {𝓤 : Ura M} (𝓛 : Logic 𝓤) (mem : Memory → SProp
   a = (dk, (lent inb, (lent outb, (lent hist, (lent out, (at, (line, (lent tal, (c, tt)))))))))
 
   abbrev vals : List Val × (List Val × (List Val × (List Val × (List Val × (List Val × (List Val × (List Val × (List Val × Unit {0}))))))))
-  vals = (machK dk ∷ [], (sv inb ∷ [], (sv outb ∷ [], (sv hist ∷ [], (sv out ∷ [], (vint w64 at ∷ [], (vint w64 line ∷ [], (pv tal ∷ [], (machC c ∷ [], tt)))))))))
+  vals = (mach_k dk ∷ [], (sv inb ∷ [], (sv outb ∷ [], (sv hist ∷ [], (sv out ∷ [], (vint w64 at ∷ [], (vint w64 line ∷ [], (pv tal ∷ [], (mach_c c ∷ [], tt)))))))))
 
   abbrev Post : Val → SProp 𝓤
   Post = (walk_of 𝓛 f.ended stayed (f.clauses 𝓛 mem run)).post (((inb.κ, (outb.κ, (hist.κ, (out.κ, (tal.κ, tt))))), (inb.q, (outb.q, (hist.q, (out.q, (tal.q, tt))))), tt, a, vals), tt)
 
-  exits : Is Desks dk (machK dk ∷ []) → at < 2 ^ 64 → line < 2 ^ 64 → Is Calls c (machC c ∷ []) → (r : Stepped) (inb' outb' hist' out' : List ℕ) (t : Tally) → length inb' ≡ length inb.now → length outb' ≡ length outb.now → length hist' ≡ length hist.now → length out' ≡ length out.now → repliedOf r inb' outb' hist' out' ≡ replied line (page out.now at) (answer (bookOf dk inb.now outb.now hist.now) c) → t ≡ tallied tal.now r.number → Is Results r (machS r ∷ [])
-      → ent 𝓤 (⋆ 𝓛 (‵ (fobs tal.γ (Tallies.coded.code t)) ∷ ‵ (fbor tal.κ (Body (at_mem Tallies) tal.b tal.o tal.γ)) ∷ token tal ∷ last-slice w64 inb inb' ∷ token inb ∷ last-slice w64 outb outb' ∷ token outb ∷ last-slice w64 hist hist' ∷ token hist ∷ last-slice w8 out out' ∷ token out ∷ [])) (Post (machS r))
+  exits : Is Desks dk (mach_k dk ∷ []) → at < 2 ^ 64 → line < 2 ^ 64 → Is Calls c (mach_c c ∷ []) → (r : Stepped) (inb' outb' hist' out' : List ℕ) (t : Tally) → length inb' ≡ length inb.now → length outb' ≡ length outb.now → length hist' ≡ length hist.now → length out' ≡ length out.now → replied_of r inb' outb' hist' out' ≡ replied line (page out.now at) (answer (book_of dk inb.now outb.now hist.now) c) → t ≡ tallied tal.now r.number → Is Results r (mach_s r ∷ [])
+      → ent 𝓤 (⋆ 𝓛 (‵ (fobs tal.γ (Tallies.coded.code t)) ∷ ‵ (fbor tal.κ (Body (at_mem Tallies) tal.b tal.o tal.γ)) ∷ token tal ∷ last_slice w64 inb inb' ∷ token inb ∷ last_slice w64 outb outb' ∷ token outb ∷ last_slice w64 hist hist' ∷ token hist ∷ last_slice w8 out out' ∷ token out ∷ [])) (Post (mach_s r))
   exits isdk isat isline isc r inb' outb' hist' out' t same-inb same-outb same-hist same_out e e' isr =
-      qed 𝓛 (‵ (fobs tal.γ (Tallies.coded.code t)) ∷ ‵ (fbor tal.κ (Body (at_mem Tallies) tal.b tal.o tal.γ)) ∷ token tal ∷ last-slice w64 inb inb' ∷ token inb ∷ last-slice w64 outb outb' ∷ token outb ∷ last-slice w64 hist hist' ∷ token hist ∷ last-slice w8 out out' ∷ token out ∷ []) ∵
-      suffices ! _ (ends_at 𝓛 f.ended stayed (f.clauses 𝓛 mem run) (((inb.κ, (outb.κ, (hist.κ, (out.κ, (tal.κ, tt))))), (inb.q, (outb.q, (hist.q, (out.q, (tal.q, tt))))), tt, a, vals), tt) (machS r) r (tt, (inb', (outb', (hist', (out', (tt, (tt, (t, (tt, tt))))))))) (tt, (same-inb, (same-outb, (same-hist, (same_out, (tt, (tt, (tt, (tt, tt)))))))))) $ says_both ! e e' $
+      qed 𝓛 (‵ (fobs tal.γ (Tallies.coded.code t)) ∷ ‵ (fbor tal.κ (Body (at_mem Tallies) tal.b tal.o tal.γ)) ∷ token tal ∷ last_slice w64 inb inb' ∷ token inb ∷ last_slice w64 outb outb' ∷ token outb ∷ last_slice w64 hist hist' ∷ token hist ∷ last_slice w8 out out' ∷ token out ∷ []) ∵
+      suffices ! _ (ends_at 𝓛 f.ended stayed (f.clauses 𝓛 mem run) (((inb.κ, (outb.κ, (hist.κ, (out.κ, (tal.κ, tt))))), (inb.q, (outb.q, (hist.q, (out.q, (tal.q, tt))))), tt, a, vals), tt) (mach_s r) r (tt, (inb', (outb', (hist', (out', (tt, (tt, (t, (tt, tt))))))))) (tt, (same-inb, (same-outb, (same-hist, (same_out, (tt, (tt, (tt, (tt, tt)))))))))) $ says_both ! e e' $
       nothing ! $ move ! (3 ∷ 0 ∷ []) $ join ! $ move ! (10 ∷ 0 ∷ []) $ join ! $ move ! (8 ∷ 0 ∷ []) $ join ! $ move ! (6 ∷ 0 ∷ []) $ join ! $ move ! (4 ∷ 0 ∷ []) $ join ! $ frame ! $
       feq_i ! (List Val) (pv tal ∷ []) (pv tal ∷ []) refl $ fjoin3 ! $ nothing ! $ owned ! Calls (Is Calls) ((Le.makes Cl.the_type Cl'.the_plain) 𝓛) c _ isc $ fjoin ! $ move ! (1 ∷ 0 ∷ []) $ fjoin ! $
       owned ! u64 (Is u64) (uint_Makes 𝓛 w64) line _ (refl, isline) $ fjoin ! $ owned ! usize (Is usize) (uint_Makes 𝓛 w64) at _ (refl, isat) $ fjoin ! $ move ! (4 ∷ 0 ∷ []) $
@@ -112,21 +112,21 @@ module _ {M : Type 1} {𝓤 : Ura M} (𝓛 : Logic 𝓤) (mem : Memory → SProp
       owned ! Results (Is Results) ((LL.makes Sp.the_type Sp'.the_plain) 𝓛) r _ isr $ done !
 
   abbrev to-raised : ℕ → (Raised 𝓛 mem run).Ghost
-  to-raised n = ((tt, tt, tt, (tal.now, (n, tt)), (machT tal.now ∷ [], (vint w64 n ∷ [], tt))), tt)
+  to-raised n = ((tt, tt, tt, (tal.now, (n, tt)), (mach_t tal.now ∷ [], (vint w64 n ∷ [], tt))), tt)
 
-  goes-raised : (n : ℕ) → n < 2 ^ 64 → tal.now.done ≤ 100000 → tal.now.other ≤ 100000 → Is Tallies tal.now (machT tal.now ∷ []) → ent 𝓤 (emp 𝓤) ((Raised 𝓛 mem run).pre (to-raised n))
+  goes-raised : (n : ℕ) → n < 2 ^ 64 → tal.now.done ≤ 100000 → tal.now.other ≤ 100000 → Is Tallies tal.now (mach_t tal.now ∷ []) → ent 𝓤 (emp 𝓤) ((Raised 𝓛 mem run).pre (to-raised n))
   goes-raised n fits few few' is =
       qed 𝓛 [] ∵ says_both ! few few' $ owned ! u64 (Is u64) (uint_Makes 𝓛 w64) n _ (refl, fits) $ nothing ! $ move ! (1 ∷ 0 ∷ []) $ fjoin ! $
       owned ! Tallies (Is Tallies) ((LL.makes T.the_type T'.the_plain) 𝓛) tal.now _ is $ fjoin ! $ nothing ! $ done !
 
   module _ (𝓣 : Tables 𝓤 H) (Known-step : Triple 𝓤 (𝓣.C #step-done) (StepDone 𝓛 mem run)) (known-raised : Triple 𝓤 (𝓣.C #raised) (Raised 𝓛 mem run)) where
-    walk : Is Desks dk (machK dk ∷ []) → Room (UInt w64) (length inb.now) → Room (UInt w64) (length outb.now) → Room (UInt w64) (length hist.now) → Room (UInt w8) (length out.now) → at < 2 ^ 64 → line < 2 ^ 64 → Is Calls c (machC c ∷ []) → tal.now.done ≤ 100000 → tal.now.other ≤ 100000 → Accepted (bookOf dk inb.now outb.now hist.now) c → ent 𝓤 (on_entry 𝓛 f.signature (inb.κ, (outb.κ, (hist.κ, (out.κ, (tal.κ, tt))))) (inb.q, (outb.q, (hist.q, (out.q, (tal.q, tt))))) a vals) (WpFn 𝓤 H 𝓣.C 𝓣.Λ code.function (machK dk ∷ sv inb ∷ sv outb ∷ sv hist ∷ sv out ∷ vint w64 at ∷ vint w64 line ∷ pv tal ∷ machC c ∷ []) Post)
+    walk : Is Desks dk (mach_k dk ∷ []) → Room (UInt w64) (length inb.now) → Room (UInt w64) (length outb.now) → Room (UInt w64) (length hist.now) → Room (UInt w8) (length out.now) → at < 2 ^ 64 → line < 2 ^ 64 → Is Calls c (mach_c c ∷ []) → tal.now.done ≤ 100000 → tal.now.other ≤ 100000 → Accepted (book_of dk inb.now outb.now hist.now) c → ent 𝓤 (on_entry 𝓛 f.signature (inb.κ, (outb.κ, (hist.κ, (out.κ, (tal.κ, tt))))) (inb.q, (outb.q, (hist.q, (out.q, (tal.q, tt))))) a vals) (WpFn 𝓤 H 𝓣.C 𝓣.Λ code.function (mach_k dk ∷ sv inb ∷ sv outb ∷ sv hist ∷ sv out ∷ vint w64 at ∷ vint w64 line ∷ pv tal ∷ mach_c c ∷ []) Post)
     walk isdk room-inb room-outb room-hist room_out isat isline isc few few' acc =
         qed 𝓛 ((‵ (flft inb.κ inb.q) ⊛ (‵ (flft outb.κ outb.q) ⊛ (‵ (flft hist.κ hist.q) ⊛ (‵ (flft out.κ out.q) ⊛ (‵ (flft tal.κ tal.q) ⊛ (‵ ftrue)))))) ∷ ‵ (owns (Desks ∷ MutSlice (named 0) inb.κ (UInt w64) ∷ MutSlice (named 1) outb.κ (UInt w64) ∷ MutSlice (named 2) hist.κ (UInt w64) ∷ MutSlice (named 3) out.κ (UInt w8) ∷ usize ∷ u64 ∷ MutRef (named 4) tal.κ Tallies ∷ Calls ∷ []) a vals) ∷ []) ∵
         split ! $ move ! (1 ∷ []) $ split ! $ move ! (1 ∷ []) $ split ! $ move ! (1 ∷ []) $ split ! $ move ! (1 ∷ []) $ split ! $ move ! (6 ∷ []) $ fsplit ! $ move ! (1 ∷ []) $ fsplit ! $
         move ! (1 ∷ []) $ fsplit ! $ move ! (1 ∷ []) $ fsplit ! $ move ! (1 ∷ []) $ fsplit ! $ move ! (1 ∷ []) $ fsplit ! $ move ! (1 ∷ []) $ fsplit ! $ move ! (1 ∷ []) $ fsplit ! $
         keep ! (7 ∷ 14 ∷ 6 ∷ 13 ∷ 5 ∷ 12 ∷ 4 ∷ 11 ∷ 0 ∷ 9 ∷ []) $
-        enter ! 𝓣.C 𝓣.Λ code.function (machK dk ∷ sv inb ∷ sv outb ∷ sv hist ∷ sv out ∷ vint w64 at ∷ vint w64 line ∷ pv tal ∷ machC c ∷ []) _ $ alloc1 ! (λ l₀. alloc1 ! (λ l₁.
+        enter ! 𝓣.C 𝓣.Λ code.function (mach_k dk ∷ sv inb ∷ sv outb ∷ sv hist ∷ sv out ∷ vint w64 at ∷ vint w64 line ∷ pv tal ∷ mach_c c ∷ []) _ $ alloc1 ! (λ l₀. alloc1 ! (λ l₁.
         alloc1 ! (λ l₂. alloc1 ! (λ l₃. alloc1 ! (λ l₄. alloc1 ! (λ l₅. alloc1 ! (λ l₆. alloc1 ! (λ l₇. alloc1 ! (λ l₈. alloc1 ! (λ l₉. alloc1 ! (λ l₁₀. alloc1 ! (λ l₁₁. alloc1 ! (λ l₁₂.
         alloc1 ! (λ l₁₃. alloc1 ! (λ l₁₄. alloc1 ! (λ l₁₅. alloc1 ! (λ l₁₆. alloc1 ! (λ l₁₇. alloc1 ! (λ l₁₈. alloc1 ! (λ l₁₉. alloc1 ! (λ l₂₀. alloc0 ! $
         move ! (42 ∷ 43 ∷ 44 ∷ 45 ∷ 46 ∷ 47 ∷ 48 ∷ 49 ∷ 50 ∷ 51 ∷ []) $ params1 ! $ pass1 ! (init ! 48 refl ((LL.lawful Dk.the_type Dk'.the_laws 𝓛).typed dk _ isdk).0) $
@@ -149,7 +149,7 @@ module _ {M : Type 1} {𝓤 : Ura M} (𝓛 : Logic 𝓤) (mem : Memory → SProp
         -- and the tally is raised where it lies
         move ! (8 ∷ 9 ∷ []) $ fsplit3 ! $ drop ! $
         opens ! tt Tallies {h = tal.now} tal.b tal.o (λ vs. spelt ! Tallies (Is Tallies) (shows 𝓛 Tallies) (LL.vals T.the_type T'.the_laws) (LL.tells T.the_type T'.the_laws) full_share tal.now vs tal.b tal.o $
-        move ! (1 ∷ []) $ peeks ! Tallies (Is Tallies) (shows 𝓛 Tallies) tal.now (machT tal.now ∷ []) (λ was. move ! (1 ∷ 0 ∷ []) $
+        move ! (1 ∷ []) $ peeks ! Tallies (Is Tallies) (shows 𝓛 Tallies) tal.now (mach_t tal.now ∷ []) (λ was. move ! (1 ∷ 0 ∷ []) $
         -- [the tally's cell; what a Tally owns; the open borrow; obs; auth; what is left of the tables; the locals]
         assigns ! (of_opd ! (load ! (from ! (hop ! (look ! 37 refl) (stop !))) (look_raw ! 0 refl))) (from ! (stop !)) (init ! 13 refl ((LL.lawful T.the_type T'.the_laws 𝓛).typed tal.now _ was).0) $
         use0 𝓛 (raw ((Raised 𝓛 mem run).pre (to-raised r.number))) (goes-raised r.number (LL.owed Sp.the_type Sp'.the_laws r _ isr).0.1 few few' was) $
@@ -176,8 +176,8 @@ module _ {M : Type 1} {𝓤 : Ura M} (𝓛 : Logic 𝓤) (mem : Memory → SProp
 
   counted-step-walks : Walks 𝓛 f.ended stayed (WpFn 𝓤 H 𝓣.C 𝓣.Λ code.function) (f.clauses 𝓛 mem run)
   counted-step-walks = walked 𝓛 f.ended stayed (f.clauses 𝓛 mem run) (WpFn 𝓤 H 𝓣.C 𝓣.Λ code.function) (λ κs. (LL.vals Dk.the_type Dk'.the_laws, (mut_slice_vals, (mut_slice_vals, (mut_slice_vals, (mut_slice_vals, (uint_vals w64, (uint_vals w64, (mut_vals, (Le.vals Cl.the_type Cl'.the_laws, tt)))))))))) (λ κs. (LL.tells Dk.the_type Dk'.the_laws, (mut_slice_Tells (named 0) κs.0 (UInt w64), (mut_slice_Tells (named 1) κs.1.0 (UInt w64), (mut_slice_Tells (named 2) κs.1.1.0 (UInt w64), (mut_slice_Tells (named 3) κs.1.1.1.0 (UInt w8), (uint_Tells w64, (uint_Tells w64, (mut_Tells (named 4) κs.1.1.1.1.0 Tallies, (Le.tells Cl.the_type Cl'.the_laws, tt))))))))))
-      (λ κs qs bounds a g are. needs-three 𝓤 (a.1.1.1.1.1.1.1.0.now.done ≤ 100000) (a.1.1.1.1.1.1.1.0.now.other ≤ 100000) (Accepted (bookOf a.0 a.1.0.now a.1.1.0.now a.1.1.1.0.now) a.1.1.1.1.1.1.1.1.0) _
-      (walk 𝓛 mem run (loan-of κs.0 qs.0 a.1.0) (loan-of κs.1.0 qs.1.0 a.1.1.0) (loan-of κs.1.1.0 qs.1.1.0 a.1.1.1.0) (loan-of κs.1.1.1.0 qs.1.1.1.0 a.1.1.1.1.0) a.0 a.1.1.1.1.1.0 a.1.1.1.1.1.1.0 (loan-of κs.1.1.1.1.0 qs.1.1.1.1.0 a.1.1.1.1.1.1.1.0) a.1.1.1.1.1.1.1.1.0 𝓣 Known-step known-raised are.0 are.1.0.0.1 are.1.1.0.0.1 are.1.1.1.0.0.1 are.1.1.1.1.0.0.1 are.1.1.1.1.1.0.1 are.1.1.1.1.1.1.0.1 are.1.1.1.1.1.1.1.1.0))
+      (λ κs qs bounds a g are. needs_three 𝓤 (a.1.1.1.1.1.1.1.0.now.done ≤ 100000) (a.1.1.1.1.1.1.1.0.now.other ≤ 100000) (Accepted (book_of a.0 a.1.0.now a.1.1.0.now a.1.1.1.0.now) a.1.1.1.1.1.1.1.1.0) _
+      (walk 𝓛 mem run (loan_of κs.0 qs.0 a.1.0) (loan_of κs.1.0 qs.1.0 a.1.1.0) (loan_of κs.1.1.0 qs.1.1.0 a.1.1.1.0) (loan_of κs.1.1.1.0 qs.1.1.1.0 a.1.1.1.1.0) a.0 a.1.1.1.1.1.0 a.1.1.1.1.1.1.0 (loan_of κs.1.1.1.1.0 qs.1.1.1.1.0 a.1.1.1.1.1.1.1.0) a.1.1.1.1.1.1.1.1.0 𝓣 Known-step known-raised are.0 are.1.0.0.1 are.1.1.0.0.1 are.1.1.1.0.0.1 are.1.1.1.1.0.0.1 are.1.1.1.1.1.0.1 are.1.1.1.1.1.1.0.1 are.1.1.1.1.1.1.1.1.0))
 
   counted-step-meets : Meets 𝓛 f.signature (WpFn 𝓤 H 𝓣.C 𝓣.Λ code.function) (f.spec 𝓛 mem run)
   counted-step-meets =

@@ -2,7 +2,7 @@ use mathlib.Core.Path.{◌≡◌, sym, ap, ◌∙◌}
 use borrow.Author.Tests.{not-true, not-false}
 use Rattle.rules.specs.State.{Book}
 use Rattle.rules.specs.Replies.{told, plain}
-use Rattle.rules.specs.Answer.{bookOf, replyNumber}
+use Rattle.rules.specs.Answer.{book_of, reply_number}
 use Rattle.pages.specs.Writing.{page}
 use Rattle.desk.proofs.Books.{refuses, accepts}
 use Rattle.steps.specs.Step.{replied}
@@ -35,9 +35,9 @@ same-length-4 c = search rules
 returns : tie.Need-returns
 returns c =
     let a = c.before.before.before.before.before.before.before.before.before.before.before.before.before.before.before.before.before.before.before.before.args in
-    let b : Book = bookOf a.t1 a.inbox.now a.outbox.now a.history.now in
+    let b : Book = book_of a.t1 a.inbox.now a.outbox.now a.history.now in
     let y = c.before.before.before.before.before.before.call-reply in
-    let tells : told y.result ≡ plain (replyNumber b a.c) = y.ensures in
+    let tells : told y.result ≡ plain (reply_number b a.c) = y.ensures in
     let w = c.before.before.put-answered in
     let p = page a.out.now a.at in
     let refused = sym c.before.before.before.before.before.is-done.ensures ∙ not-true c.before.before.before.before.before.is-done.result c.before.before.before.before.if1.true in
@@ -46,9 +46,9 @@ returns c =
 step-done-requires : tie.Need-step-done-requires
 step-done-requires c κs =
     let a = c.before.before.before.before.before.before.before.before.before.before.before.before.before.before.before.before.before.before.before.before.args in
-    let b : Book = bookOf a.t1 a.inbox.now a.outbox.now a.history.now in
+    let b : Book = book_of a.t1 a.inbox.now a.outbox.now a.history.now in
     let y = c.before.before.before.before.before.before.call-reply in
-    let tells : told y.result ≡ plain (replyNumber b a.c) = y.ensures in
+    let tells : told y.result ≡ plain (reply_number b a.c) = y.ensures in
     accepts b a.c y.result tells (sym c.before.before.before.before.before.is-done.ensures ∙ not-false c.before.before.before.before.before.is-done.result c.before.before.before.before.if1.false)
 
 same-length-5 : tie.Need-same-length-5

@@ -2,18 +2,18 @@ use mathlib.Core.Path.{refl, sym, ap, subst, ◌∙◌}
 use mathlib.Core.Logic.{⊎_elim}
 use Rattle.rules.specs.declared.calls.Call.{Call}
 use Rattle.rules.specs.State.{Book}
-use Rattle.rules.specs.Answer.{bookOf, answer}
+use Rattle.rules.specs.Answer.{book_of, answer}
 use Rattle.rules.specs.Facts.{Accepted}
 use Rattle.pages.specs.Writing.{page}
 use Rattle.steps.specs.Step.{replied}
-use Rattle.steps.proofs.Steps.{plain-replied, Done, done-as, signed}
+use Rattle.steps.proofs.Steps.{plain-replied, Done, done_as, signed}
 use borrow.Author.Rules.{rules}
 use Rattle.steps.proofs.step.step_done.Statement.{statement}
 use Rattle.steps.proofs.step.step_done.Tie as tie
 
 -- the book that came
 book : tie.Start → Book
-book c = bookOf c.args.d c.args.inbox.now c.args.outbox.now c.args.history.now
+book c = book_of c.args.d c.args.inbox.now c.args.outbox.now c.args.history.now
 
 -- whichever of the eight it was, its function has done it
 done : (c : tie.At-match-branch) → Done (book c.before.before.before.before.before) c.before.before.before.before.before.args.c c.match.inbox c.match.outbox c.match.history c.match.a
@@ -21,14 +21,14 @@ unfolding book
 done c =
     let s = c.before.before.before.before.before in
     let b : Book = book s in
-    ⊎_elim (λ w. done-as b w.1.given.1 w.9 w.10 w.11 w.12 (record { outcome = w.6.ensures; inbox = w.7.given; outbox = refl; history = refl }))
-    (⊎_elim (λ w. done-as b w.1.given.1 w.11 w.12 w.13 w.14 (record { outcome = w.6.ensures; inbox = w.7.given; outbox = refl; history = w.9.given }))
-    (⊎_elim (λ w. done-as b w.1.given.1 w.9 w.10 w.11 w.12 (record { outcome = w.6.ensures; inbox = refl; outbox = refl; history = w.7.given }))
-    (⊎_elim (λ w. done-as b w.1.given.1 w.11 w.12 w.13 w.14 (record { outcome = w.6.ensures; inbox = refl; outbox = w.7.given; history = w.9.given }))
-    (⊎_elim (λ w. done-as b w.1.given.1 w.6 w.7 w.8 w.9 (record { outcome = w.5.ensures; inbox = refl; outbox = refl; history = refl }))
-    (⊎_elim (λ w. done-as b w.1.given.1 w.9 w.10 w.11 w.12 (record { outcome = w.6.ensures; inbox = refl; outbox = w.7.given; history = refl }))
-    (⊎_elim (λ w. done-as b w.1.given.1 w.9 w.10 w.11 w.12 (record { outcome = w.6.ensures; inbox = refl; outbox = refl; history = w.7.given }))
-    (λ w. done-as b w.1.given.1 w.2 w.3 w.4 w.5 (record { outcome = signed b _ (subst (Accepted b) w.1.given.1 s.requires); inbox = refl; outbox = refl; history = refl }))))))))
+    ⊎_elim (λ w. done_as b w.1.given.1 w.9 w.10 w.11 w.12 (record { outcome = w.6.ensures; inbox = w.7.given; outbox = refl; history = refl }))
+    (⊎_elim (λ w. done_as b w.1.given.1 w.11 w.12 w.13 w.14 (record { outcome = w.6.ensures; inbox = w.7.given; outbox = refl; history = w.9.given }))
+    (⊎_elim (λ w. done_as b w.1.given.1 w.9 w.10 w.11 w.12 (record { outcome = w.6.ensures; inbox = refl; outbox = refl; history = w.7.given }))
+    (⊎_elim (λ w. done_as b w.1.given.1 w.11 w.12 w.13 w.14 (record { outcome = w.6.ensures; inbox = refl; outbox = w.7.given; history = w.9.given }))
+    (⊎_elim (λ w. done_as b w.1.given.1 w.6 w.7 w.8 w.9 (record { outcome = w.5.ensures; inbox = refl; outbox = refl; history = refl }))
+    (⊎_elim (λ w. done_as b w.1.given.1 w.9 w.10 w.11 w.12 (record { outcome = w.6.ensures; inbox = refl; outbox = w.7.given; history = refl }))
+    (⊎_elim (λ w. done_as b w.1.given.1 w.9 w.10 w.11 w.12 (record { outcome = w.6.ensures; inbox = refl; outbox = refl; history = w.7.given }))
+    (λ w. done_as b w.1.given.1 w.2 w.3 w.4 w.5 (record { outcome = signed b _ (subst (Accepted b) w.1.given.1 s.requires); inbox = refl; outbox = refl; history = refl }))))))))
     c.match.branch
 
 enum-known-c : tie.Need-enum-known-c
@@ -97,7 +97,7 @@ same-length-4 c = search rules
 returns : tie.Need-returns
 returns c =
     let a = c.before.before.before.before.before.before.before.before.before.before.before.before.before.before.args in
-    let b : Book = bookOf a.d a.inbox.now a.outbox.now a.history.now in
+    let b : Book = book_of a.d a.inbox.now a.outbox.now a.history.now in
     c.before.before.put-trace.ensures ∙ sym (ap (λ (x : Call). replied a.line (page a.out.now a.at) (answer b x)) c.before.before.before.before.before.before.before.before.c7.given.1)
 
 put-answered-requires : tie.Need-put-answered-requires

@@ -1,5 +1,5 @@
 use mathlib.Core.Path.{sym, ap}
-use Rattle.steps.specs.Step.{handedCount}
+use Rattle.steps.specs.Step.{handed_count}
 use borrow.Author.Rules.{rules}
 use Rattle.steps.proofs.traced.piece_count.Statement.{statement}
 use Rattle.steps.proofs.traced.piece_count.Tie as tie
@@ -17,20 +17,20 @@ enum-told-3 : tie.Need-enum-told-3
 enum-told-3 c = search rules
 
 returns : tie.Need-returns
-unfolding handedCount
-returns c = sym (ap handedCount c.enum_told.given.1)
+unfolding handed_count
+returns c = sym (ap handed_count c.enum_told.given.1)
 
 returns-2 : tie.Need-returns-2
-unfolding handedCount
-returns-2 c = sym (ap handedCount c.enum-told2.given.1)
+unfolding handed_count
+returns-2 c = sym (ap handed_count c.enum-told2.given.1)
 
 returns-3 : tie.Need-returns-3
-unfolding handedCount
-returns-3 c = sym (ap handedCount c.before.a.given.1)
+unfolding handed_count
+returns-3 c = sym (ap handed_count c.before.a.given.1)
 
 returns-4 : tie.Need-returns-4
-unfolding handedCount
-returns-4 c = sym (ap handedCount c.enum-told3.given.1)
+unfolding handed_count
+returns-4 c = sym (ap handed_count c.enum-told3.given.1)
 
 pub piece-count-spec : {M : Type 1} → statement M
 piece-count-spec =

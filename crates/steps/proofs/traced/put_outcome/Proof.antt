@@ -41,11 +41,11 @@ use Rattle.rules.specs.contracts.rows.Lot as T
 use Rattle.rules.specs.contracts.answers.Answer as An
 use Rattle.rules.proofs.answers.Answer.TheLaws as An'
 use Rattle.takings.proofs.Locals.{local, part, slice_at}
-use Rattle.takings.proofs.Values.{R, Answers, machA, at-list, sv}
+use Rattle.takings.proofs.Values.{R, Answers, mach_a, at_list, sv}
 use Rattle.pages.specs.Writing.{page, put}
-use Rattle.steps.specs.Step.{answerText}
+use Rattle.steps.specs.Step.{answer_text}
 use Rattle.steps.proofs.Pages.{answer-text}
-use Rattle.steps.proofs.LineCalls.{PutAnswer, puts-answer, PutLineFeed, ends-line}
+use Rattle.steps.proofs.LineCalls.{PutAnswer, puts_answer, PutLineFeed, ends_line}
 use Rattle.steps.proofs.traced.put_outcome.Proof.Calls.{PieceCount, counts-pieces, PutPieces, puts-pieces}
 use Rattle.replies.proofs.put_answer.Symbol as put-answer-def
 use Rattle.replies.proofs.put_answer.Symbol.{name as #put-answer}
@@ -80,17 +80,17 @@ module _ {M : Type 1} {𝓤 : Ura M} (𝓛 : Logic 𝓤) (mem : Memory → SProp
   nlot = length lots
 
   abbrev a : Arg
-  a = (at-list bbyte obyte γbyte bytes, (pos, (line, (ans, (at-list blot olot γlot lots, tt)))))
+  a = (at_list bbyte obyte γbyte bytes, (pos, (line, (ans, (at_list blot olot γlot lots, tt)))))
 
   abbrev at : List Val × (List Val × (List Val × (List Val × (List Val × Unit {0}))))
-  at = (sv bbyte obyte nbyte ∷ [], (vint w64 pos ∷ [], (vint w64 line ∷ [], (machA ans ∷ [], (sv blot olot nlot ∷ [], tt)))))
+  at = (sv bbyte obyte nbyte ∷ [], (vint w64 pos ∷ [], (vint w64 line ∷ [], (mach_a ans ∷ [], (sv blot olot nlot ∷ [], tt)))))
 
   abbrev Post : Val → SProp 𝓤
   Post = (walk_of 𝓛 f.ended stayed (f.clauses 𝓛 mem run)).post (((κbyte, (κlot, tt)), (qbyte, (qlot, tt)), tt, a, at), tt)
 
-  exits : pos < 2 ^ 64 → line < 2 ^ 64 → Is Answers ans (machA ans ∷ []) → (r : ℕ) → r < 2 ^ 64 → (bytew : List ℕ) → length bytew ≡ nbyte → page bytew r ≡ put (page bytes pos) (answerText line ans lots) → ent 𝓤 (⋆ 𝓛 (‵ ((MutSlice (named 0) κbyte u8).own_val (at-list bbyte obyte γbyte bytew) (sv bbyte obyte nbyte ∷ [])) ∷ ‵ (flft κbyte qbyte) ∷ ‵ ((ShrSlice (named 0) κlot R).own_val (at-list blot olot γlot lots) (sv blot olot nlot ∷ [])) ∷ ‵ (flft κlot qlot) ∷ [])) (Post (vint w64 r))
+  exits : pos < 2 ^ 64 → line < 2 ^ 64 → Is Answers ans (mach_a ans ∷ []) → (r : ℕ) → r < 2 ^ 64 → (bytew : List ℕ) → length bytew ≡ nbyte → page bytew r ≡ put (page bytes pos) (answer_text line ans lots) → ent 𝓤 (⋆ 𝓛 (‵ ((MutSlice (named 0) κbyte u8).own_val (at_list bbyte obyte γbyte bytew) (sv bbyte obyte nbyte ∷ [])) ∷ ‵ (flft κbyte qbyte) ∷ ‵ ((ShrSlice (named 0) κlot R).own_val (at_list blot olot γlot lots) (sv blot olot nlot ∷ [])) ∷ ‵ (flft κlot qlot) ∷ [])) (Post (vint w64 r))
   exits ispos isline isans r isr bytew lenbyte e =
-      qed 𝓛 (‵ ((MutSlice (named 0) κbyte u8).own_val (at-list bbyte obyte γbyte bytew) (sv bbyte obyte nbyte ∷ [])) ∷ ‵ (flft κbyte qbyte) ∷ ‵ ((ShrSlice (named 0) κlot R).own_val (at-list blot olot γlot lots) (sv blot olot nlot ∷ [])) ∷ ‵ (flft κlot qlot) ∷ []) ∵
+      qed 𝓛 (‵ ((MutSlice (named 0) κbyte u8).own_val (at_list bbyte obyte γbyte bytew) (sv bbyte obyte nbyte ∷ [])) ∷ ‵ (flft κbyte qbyte) ∷ ‵ ((ShrSlice (named 0) κlot R).own_val (at_list blot olot γlot lots) (sv blot olot nlot ∷ [])) ∷ ‵ (flft κlot qlot) ∷ []) ∵
       suffices ! _ (ends_at 𝓛 f.ended stayed (f.clauses 𝓛 mem run) (((κbyte, (κlot, tt)), (qbyte, (qlot, tt)), tt, a, at), tt) (vint w64 r) r (bytew, (tt, (tt, (tt, (tt, tt))))) (lenbyte, (tt, (tt, (tt, (tt, tt)))))) $ says ! e $
       nothing ! $ move ! (4 ∷ 0 ∷ []) $ join ! $ move ! (2 ∷ 0 ∷ []) $ join ! $ frame ! $ nothing ! $ move ! (2 ∷ 0 ∷ []) $ fjoin ! $
       owned ! Answers (Is Answers) ((Le.makes An.the_type An'.the_plain) 𝓛) ans _ isans $ fjoin ! $ owned ! u64 (Is u64) (uint_Makes 𝓛 w64) line _ (refl, isline) $ fjoin ! $
@@ -98,11 +98,11 @@ module _ {M : Type 1} {𝓤 : Ura M} (𝓛 : Logic 𝓤) (mem : Memory → SProp
       owned ! usize (Is usize) (uint_Makes 𝓛 w64) r _ (refl, isr) $ done !
 
   module _ (𝓣 : Tables 𝓤 H) (known-answer : Triple 𝓤 (𝓣.C #put-answer) (PutAnswer 𝓛 mem run)) (known-count : Triple 𝓤 (𝓣.C #piece-count) (PieceCount 𝓛 mem run)) (known-pieces : Triple 𝓤 (𝓣.C #put-pieces) (PutPieces 𝓛 mem run)) (known-feed : Triple 𝓤 (𝓣.C #put-line-feed) (PutLineFeed 𝓛 mem run)) where
-    walk : Room u8 nbyte → pos < 2 ^ 64 → line < 2 ^ 64 → Is Answers ans (machA ans ∷ []) → Room R nlot → ent 𝓤 (on_entry 𝓛 f.signature (κbyte, (κlot, tt)) (qbyte, (qlot, tt)) a at) (WpFn 𝓤 H 𝓣.C 𝓣.Λ code.function (sv bbyte obyte nbyte ∷ vint w64 pos ∷ vint w64 line ∷ machA ans ∷ sv blot olot nlot ∷ []) Post)
+    walk : Room u8 nbyte → pos < 2 ^ 64 → line < 2 ^ 64 → Is Answers ans (mach_a ans ∷ []) → Room R nlot → ent 𝓤 (on_entry 𝓛 f.signature (κbyte, (κlot, tt)) (qbyte, (qlot, tt)) a at) (WpFn 𝓤 H 𝓣.C 𝓣.Λ code.function (sv bbyte obyte nbyte ∷ vint w64 pos ∷ vint w64 line ∷ mach_a ans ∷ sv blot olot nlot ∷ []) Post)
     walk roombyte ispos isline isans roomlot =
         qed 𝓛 ((‵ (flft κbyte qbyte) ⊛ (‵ (flft κlot qlot) ⊛ ‵ ftrue)) ∷ ‵ (owns (MutSlice (named 0) κbyte u8 ∷ usize ∷ u64 ∷ Answers ∷ ShrSlice (named 1) κlot R ∷ []) a at) ∷ []) ∵
         split ! $ move ! (1 ∷ []) $ split ! $ move ! (3 ∷ []) $ fsplit ! $ move ! (1 ∷ []) $ fsplit ! $ move ! (1 ∷ []) $ fsplit ! $ move ! (1 ∷ []) $ fsplit ! $ move ! (1 ∷ []) $
-        fsplit ! $ keep ! (5 ∷ 8 ∷ 0 ∷ 6 ∷ []) $ enter ! 𝓣.C 𝓣.Λ code.function (sv bbyte obyte nbyte ∷ vint w64 pos ∷ vint w64 line ∷ machA ans ∷ sv blot olot nlot ∷ []) _ $
+        fsplit ! $ keep ! (5 ∷ 8 ∷ 0 ∷ 6 ∷ []) $ enter ! 𝓣.C 𝓣.Λ code.function (sv bbyte obyte nbyte ∷ vint w64 pos ∷ vint w64 line ∷ mach_a ans ∷ sv blot olot nlot ∷ []) _ $
         alloc1 ! (λ l₀. alloc1 ! (λ l₁. alloc1 ! (λ l₂. alloc1 ! (λ l₃. alloc1 ! (λ l₄. alloc1 ! (λ l₅. alloc1 ! (λ l₆. alloc1 ! (λ l₇. alloc1 ! (λ l₈. alloc1 ! (λ l₉. alloc1 ! (λ l₁₀.
         alloc1 ! (λ l₁₁. alloc1 ! (λ l₁₂. alloc1 ! (λ l₁₃. alloc1 ! (λ l₁₄. alloc0 ! $ move ! (30 ∷ 31 ∷ 32 ∷ 33 ∷ []) $ params1 ! $
         pass1 ! (init ! 30 refl (tt, (tt, (record { fits = roombyte.0 }, tt)))) $ pass1 ! (init ! 28 refl (tt, record { fits = ispos })) $
@@ -112,7 +112,7 @@ module _ {M : Type 1} {𝓤 : Ura M} (𝓛 : Logic 𝓤) (mem : Memory → SProp
         -- the start of the line
         assigns ! (slice_at ! 30 refl refl refl) (from ! (stop !)) (init ! 16 refl (tt, tt)) $
         assigns ! (agg ! (and_then ! (local ! 16 refl) (and_then ! (part ! 30 1 refl refl refl) (no_more !)))) (from ! (stop !)) (init ! 14 refl (tt, (tt, (record { fits = roombyte.0 }, tt)))) $
-        puts-answer ! bbyte obyte nbyte bytes pos line ans mem run 𝓣 known-answer refl roombyte ispos isline isans (λ ν δ. (and_then ! (local ! 14 refl) (and_then ! (local ! 28 refl) (and_then ! (local ! 26 refl) (and_then ! (local ! 24 refl) (no_more !)))))) (λ q₁ w₁ same₁ e₁ is₁.
+        puts_answer ! bbyte obyte nbyte bytes pos line ans mem run 𝓣 known-answer refl roombyte ispos isline isans (λ ν δ. (and_then ! (local ! 14 refl) (and_then ! (local ! 28 refl) (and_then ! (local ! 26 refl) (and_then ! (local ! 24 refl) (no_more !)))))) (λ q₁ w₁ same₁ e₁ is₁.
         land ! (from ! (stop !)) (init ! 20 refl (tt, record { fits = is₁ })) $
         -- the pieces
         assigns ! (slice_at ! 30 refl refl refl) (from ! (stop !)) (init ! 12 refl (tt, tt)) $
@@ -123,7 +123,7 @@ module _ {M : Type 1} {𝓤 : Ura M} (𝓛 : Logic 𝓤) (mem : Memory → SProp
         -- and its end
         assigns ! (slice_at ! 30 refl refl refl) (from ! (stop !)) (init ! 6 refl (tt, tt)) $
         assigns ! (agg ! (and_then ! (local ! 6 refl) (and_then ! (part ! 30 1 refl refl refl) (no_more !)))) (from ! (stop !)) (init ! 4 refl (tt, (tt, (record { fits = roombyte.0 }, tt)))) $
-        ends-line ! bbyte obyte nbyte w₂ q₂ mem run 𝓣 known-feed (same₂ ∙ same₁) roombyte is₂ (λ ν δ. (and_then ! (local ! 4 refl) (and_then ! (local ! 18 refl) (no_more !)))) (λ q₃ w₃ same₃ e₃ is₃.
+        ends_line ! bbyte obyte nbyte w₂ q₂ mem run 𝓣 known-feed (same₂ ∙ same₁) roombyte is₂ (λ ν δ. (and_then ! (local ! 4 refl) (and_then ! (local ! 18 refl) (no_more !)))) (λ q₃ w₃ same₃ e₃ is₃.
         land ! (from ! (stop !)) (init ! 32 refl (tt, record { fits = is₃ })) $
         -- it returns, and its locals are freed
         returns ! (look ! 32 refl) $ forget ! 32 refl $ forget ! 30 refl $ forget ! 28 refl $ forget ! 26 refl $ forget ! 24 refl $ forget ! 22 refl $ forget ! 20 refl $ forget ! 18 refl $

@@ -42,17 +42,17 @@ use mir.Syntax.{Ty, erased, mut, w8, ty_int, ty_ref}
 use Rattle.rules.specs.declared.rows.Lot.{Lot}
 use Rattle.rules.specs.Lists.{joined}
 use Rattle.rules.specs.Lines.{tabbed}
-use Rattle.rules.specs.Lots.{noLot}
-use Rattle.rules.specs.Transcript.{pieceValues}
+use Rattle.rules.specs.Lots.{no_lot}
+use Rattle.rules.specs.Transcript.{piece_values}
 use Rattle.rules.specs.contracts.rows.Lot as T
 use Rattle.rules.proofs.rows.Lot.TheLaws as T'
 use Rattle.takings.proofs.Loop.{tests, below, next_fits, less, less_wf}
 use Rattle.takings.proofs.Locals.{local, part, slice_at}
-use Rattle.takings.proofs.Values.{R, at-list, sv, word, refimm, places, cell, spare}
-use Rattle.takings.proofs.LotCalls.{LotRead, reads-lot}
+use Rattle.takings.proofs.Values.{R, at_list, sv, word, refimm, places, cell, spare}
+use Rattle.takings.proofs.LotCalls.{LotRead, reads_lot}
 use Rattle.pages.specs.Writing.{page, put}
-use Rattle.steps.proofs.Pages.{piecesText, no_pieces, more-pieces, pieces_end}
-use Rattle.steps.proofs.LineCalls.{PutPiece, puts-piece}
+use Rattle.steps.proofs.Pages.{pieces_text, no_pieces, more-pieces, pieces_end}
+use Rattle.steps.proofs.LineCalls.{PutPiece, puts_piece}
 use Rattle.takings.proofs.rows.lot_at.Symbol as lot-at-def
 use Rattle.takings.proofs.rows.lot_at.Symbol.{name as #lot-at}
 use Rattle.takings.proofs.rows.lot_at.Met as lot-at-thm
@@ -92,7 +92,7 @@ record St (bytes : List ℕ) (pos : ℕ) (lots : List Lot) (n : ℕ) : Type 0 wh
   upto : k ≤ n
   fits : to < 2 ^ 64
   same : length written ≡ length bytes
-  text : page written to ≡ put (page bytes pos) (piecesText k lots)
+  text : page written to ≡ put (page bytes pos) (pieces_text k lots)
 
 module _ {bytes : List ℕ} {pos : ℕ} {lots : List Lot} {n : ℕ} where
   abbrev μ : St bytes pos lots n → ℕ
@@ -101,7 +101,7 @@ module _ {bytes : List ℕ} {pos : ℕ} {lots : List Lot} {n : ℕ} where
   abbrev start : pos < 2 ^ 64 → St bytes pos lots n
   start l = record { k = 0; to = pos; written = bytes; upto = omega arith; fits = l; same = refl; text = no_pieces (page bytes pos) lots }
 
-  abbrev next : (t : St bytes pos lots n) → t.k < n → t.k < length lots → (l : Lot) → l ≡ get_or lots t.k noLot → (w : List ℕ) (to' : ℕ) → length w ≡ length bytes → page w to' ≡ put (page t.written t.to) (tabbed (pieceValues l)) → to' < 2 ^ 64 → St bytes pos lots n
+  abbrev next : (t : St bytes pos lots n) → t.k < n → t.k < length lots → (l : Lot) → l ≡ get_or lots t.k no_lot → (w : List ℕ) (to' : ℕ) → length w ≡ length bytes → page w to' ≡ put (page t.written t.to) (tabbed (piece_values l)) → to' < 2 ^ 64 → St bytes pos lots n
   next t more here l e w to' s e' fits' = record { k = t.k + 1; to = to'; written = w; upto = omega arith; fits = fits'; same = s; text = more-pieces (page bytes pos) lots t.k l here e t.text e' }
 
   falls : (t : St bytes pos lots n) → t.k < n → n - (t.k + 1) < n - t.k
@@ -117,7 +117,7 @@ module _ {M : Type 1} {𝓤 : Ura M} (𝓛 : Logic 𝓤) (mem : Memory → SProp
   nlot = length lots
 
   abbrev a : Arg
-  a = (at-list bbyte obyte γbyte bytes, (pos, (at-list blot olot γlot lots, (n, tt))))
+  a = (at_list bbyte obyte γbyte bytes, (pos, (at_list blot olot γlot lots, (n, tt))))
 
   abbrev at : List Val × (List Val × (List Val × (List Val × Unit {0})))
   at = (sv bbyte obyte nbyte ∷ [], (vint w64 pos ∷ [], (sv blot olot nlot ∷ [], (vint w64 n ∷ [], tt))))
@@ -125,9 +125,9 @@ module _ {M : Type 1} {𝓤 : Ura M} (𝓛 : Logic 𝓤) (mem : Memory → SProp
   abbrev Post : Val → SProp 𝓤
   Post = (walk_of 𝓛 f.ended stayed (f.clauses 𝓛 mem run)).post (((κbyte, (κlot, tt)), (qbyte, (qlot, tt)), tt, a, at), tt)
 
-  exits : pos < 2 ^ 64 → n < 2 ^ 64 → (r : ℕ) → r < 2 ^ 64 → (bytew : List ℕ) → length bytew ≡ nbyte → page bytew r ≡ put (page bytes pos) (tabbed (joined pieceValues (take n lots))) → ent 𝓤 (⋆ 𝓛 (‵ ((MutSlice (named 0) κbyte u8).own_val (at-list bbyte obyte γbyte bytew) (sv bbyte obyte nbyte ∷ [])) ∷ ‵ (flft κbyte qbyte) ∷ ‵ ((ShrSlice (named 0) κlot R).own_val (at-list blot olot γlot lots) (sv blot olot nlot ∷ [])) ∷ ‵ (flft κlot qlot) ∷ [])) (Post (vint w64 r))
+  exits : pos < 2 ^ 64 → n < 2 ^ 64 → (r : ℕ) → r < 2 ^ 64 → (bytew : List ℕ) → length bytew ≡ nbyte → page bytew r ≡ put (page bytes pos) (tabbed (joined piece_values (take n lots))) → ent 𝓤 (⋆ 𝓛 (‵ ((MutSlice (named 0) κbyte u8).own_val (at_list bbyte obyte γbyte bytew) (sv bbyte obyte nbyte ∷ [])) ∷ ‵ (flft κbyte qbyte) ∷ ‵ ((ShrSlice (named 0) κlot R).own_val (at_list blot olot γlot lots) (sv blot olot nlot ∷ [])) ∷ ‵ (flft κlot qlot) ∷ [])) (Post (vint w64 r))
   exits ispos isn r isr bytew lenbyte e =
-      qed 𝓛 (‵ ((MutSlice (named 0) κbyte u8).own_val (at-list bbyte obyte γbyte bytew) (sv bbyte obyte nbyte ∷ [])) ∷ ‵ (flft κbyte qbyte) ∷ ‵ ((ShrSlice (named 0) κlot R).own_val (at-list blot olot γlot lots) (sv blot olot nlot ∷ [])) ∷ ‵ (flft κlot qlot) ∷ []) ∵
+      qed 𝓛 (‵ ((MutSlice (named 0) κbyte u8).own_val (at_list bbyte obyte γbyte bytew) (sv bbyte obyte nbyte ∷ [])) ∷ ‵ (flft κbyte qbyte) ∷ ‵ ((ShrSlice (named 0) κlot R).own_val (at_list blot olot γlot lots) (sv blot olot nlot ∷ [])) ∷ ‵ (flft κlot qlot) ∷ []) ∵
       suffices ! _ (ends_at 𝓛 f.ended stayed (f.clauses 𝓛 mem run) (((κbyte, (κlot, tt)), (qbyte, (qlot, tt)), tt, a, at), tt) (vint w64 r) r (bytew, (tt, (tt, (tt, tt)))) (lenbyte, (tt, (tt, (tt, tt))))) $ says ! e $
       nothing ! $ move ! (4 ∷ 0 ∷ []) $ join ! $ move ! (2 ∷ 0 ∷ []) $ join ! $ frame ! $ nothing ! $ owned ! usize (Is usize) (uint_Makes 𝓛 w64) n _ (refl, isn) $ fjoin ! $
       move ! (2 ∷ 0 ∷ []) $ fjoin ! $ owned ! usize (Is usize) (uint_Makes 𝓛 w64) pos _ (refl, ispos) $ fjoin ! $ move ! (1 ∷ 0 ∷ []) $ fjoin ! $ frame ! $
@@ -137,7 +137,7 @@ module _ {M : Type 1} {𝓤 : Ura M} (𝓛 : Logic 𝓤) (mem : Memory → SProp
     -- the whole context at the loop's head
     abbrev I : ℕ → ℕ → ℕ → ℕ → ℕ → ℕ → ℕ → ℕ → ℕ → ℕ → ℕ → ℕ → ℕ → ℕ → St bytes pos lots n → List (Item 𝓤)
     I l₀ l₁ l₂ l₃ l₄ l₅ l₆ l₇ l₈ l₉ l₁₀ l₁₁ l₁₂ l₁₃ t =
-        ‵ ((MutSlice (named 0) κbyte u8).own_val (at-list bbyte obyte γbyte t.written) (sv bbyte obyte nbyte ∷ [])) ∷ ‵ (flft κbyte qbyte) ∷ ‵ ((ShrSlice (named 0) κlot R).own_val (at-list blot olot γlot lots) (sv blot olot nlot ∷ [])) ∷ ‵ (flft κlot qlot) ∷ (spare (slice_ty again-page) l₁₃ (spare again-page l₁₂ (spare ty_bool l₁₁ (spare ty_bool l₁₀ (spare word l₉ (spare ty_bool l₈ (spare T'.mir l₇ (cell word l₆ (vint w64 t.k) (cell word l₅ (vint w64 t.to) (cell word l₄ (vint w64 n) (cell (slice_ty (refimm 1)) l₃ (sv blot olot nlot) (cell word l₂ (vint w64 pos) (cell (slice_ty lent-page) l₁ (sv bbyte obyte nbyte) (spare word l₀ []))))))))))))))
+        ‵ ((MutSlice (named 0) κbyte u8).own_val (at_list bbyte obyte γbyte t.written) (sv bbyte obyte nbyte ∷ [])) ∷ ‵ (flft κbyte qbyte) ∷ ‵ ((ShrSlice (named 0) κlot R).own_val (at_list blot olot γlot lots) (sv blot olot nlot ∷ [])) ∷ ‵ (flft κlot qlot) ∷ (spare (slice_ty again-page) l₁₃ (spare again-page l₁₂ (spare ty_bool l₁₁ (spare ty_bool l₁₀ (spare word l₉ (spare ty_bool l₈ (spare T'.mir l₇ (cell word l₆ (vint w64 t.k) (cell word l₅ (vint w64 t.to) (cell word l₄ (vint w64 n) (cell (slice_ty (refimm 1)) l₃ (sv blot olot nlot) (cell word l₂ (vint w64 pos) (cell (slice_ty lent-page) l₁ (sv bbyte obyte nbyte) (spare word l₀ []))))))))))))))
 
     walk : Room u8 nbyte → pos < 2 ^ 64 → Room R nlot → n < 2 ^ 64 → ent 𝓤 (on_entry 𝓛 f.signature (κbyte, (κlot, tt)) (qbyte, (qlot, tt)) a at) (WpFn 𝓤 H 𝓣.C 𝓣.Λ code.function (sv bbyte obyte nbyte ∷ vint w64 pos ∷ sv blot olot nlot ∷ vint w64 n ∷ []) Post)
     unfolding after_turn
@@ -159,13 +159,13 @@ module _ {M : Type 1} {𝓤 : Ura M} (𝓛 : Logic 𝓤) (mem : Memory → SProp
         let more : t.k < n = ltb→lt t.k n (both (ltb t.k n) (ltb t.k nlot) yes).0 in let here : t.k < nlot = ltb→lt t.k nlot (both (ltb t.k n) (ltb t.k nlot) yes).1 in
         -- the row is read
         move ! (2 ∷ 3 ∷ []) $
-        reads-lot ! blot olot nlot lots t.k mem run 𝓣 known-get (below roomlot.0 here) (and_then ! (local ! 24 refl) (and_then ! (local ! 18 refl) (no_more !))) (λ l e isl.
+        reads_lot ! blot olot nlot lots t.k mem run 𝓣 known-get (below roomlot.0 here) (and_then ! (local ! 24 refl) (and_then ! (local ! 18 refl) (no_more !))) (λ l e isl.
         land ! (from ! (stop !)) (init ! 16 refl ((LL.lawful T.the_type T'.the_laws 𝓛).typed l _ isl).0) $
         -- and written
         assigns ! (slice_at ! 28 refl refl refl) (from ! (stop !)) (init ! 6 refl (tt, tt)) $
         assigns ! (agg ! (and_then ! (local ! 6 refl) (and_then ! (part ! 28 1 refl refl refl) (no_more !)))) (from ! (stop !)) (init ! 4 refl (tt, (tt, (record { fits = roombyte.0 }, tt)))) $
         move ! (2 ∷ 3 ∷ []) $
-        puts-piece ! bbyte obyte nbyte t.written t.to l mem run 𝓣 known-put t.same roombyte t.fits isl (λ ν δ. (and_then ! (local ! 4 refl) (and_then ! (local ! 20 refl) (and_then ! (local ! 16 refl) (no_more !))))) (λ to' w same' e' fits'.
+        puts_piece ! bbyte obyte nbyte t.written t.to l mem run 𝓣 known-put t.same roombyte t.fits isl (λ ν δ. (and_then ! (local ! 4 refl) (and_then ! (local ! 20 refl) (and_then ! (local ! 16 refl) (no_more !))))) (λ to' w same' e' fits'.
         land ! (from ! (stop !)) (store ! 20 refl (tt, record { fits = fits' })) $
         assigns_last ! (bin ! (local ! 18 refl) (lit ! tt) (record { fits = next_fits roomlot.0 here })) (from ! (stop !)) (store ! 18 refl (tt, record { fits = next_fits roomlot.0 here })) $
         forget ! 16 refl $ forget ! 14 refl $ forget ! 12 refl $ forget ! 10 refl $ forget ! 8 refl $ forget ! 6 refl $ forget ! 4 refl $

@@ -41,7 +41,7 @@ use Rattle.rules.specs.declared.rows.Nonce.{Nonce}
 use Rattle.rules.specs.declared.desk.Desk.{Desk}
 use Rattle.rules.specs.declared.calls.Call.{Call}
 use Rattle.rules.specs.Replies.{told}
-use Rattle.rules.specs.Answer.{bookOf, answer}
+use Rattle.rules.specs.Answer.{book_of, answer}
 use Rattle.rules.specs.contracts.rows.Lot as T
 use Rattle.rules.specs.contracts.rows.Nonce as Nn
 use Rattle.rules.proofs.rows.Nonce.TheLaws as Nn'
@@ -50,15 +50,15 @@ use Rattle.rules.proofs.desk.Desk.TheLaws as Dk'
 use Rattle.rules.specs.contracts.answers.Answer as An
 use Rattle.rules.proofs.answers.Answer.TheLaws as An'
 use Rattle.takings.proofs.Locals.{local, part, slice_at}
-use Rattle.takings.proofs.Values.{R, Desks, machK, Nonces, machN, at-list, sv}
+use Rattle.takings.proofs.Values.{R, Desks, mach_k, Nonces, mach_n, at_list, sv}
 use Rattle.history.proofs.AskCalls.{Trace, asks-trace}
 use Rattle.pages.specs.Writing.{page}
 use Rattle.steps.specs.declared.step.Stepped.{Stepped}
-use Rattle.steps.specs.Step.{HasTables, repliedOf, replied}
+use Rattle.steps.specs.Step.{HasTables, replied_of, replied}
 use Rattle.steps.specs.contracts.step.Stepped as St
 use Rattle.steps.proofs.step.Stepped.TheLaws as St'
 use Rattle.steps.proofs.Steps.{trace-replied}
-use Rattle.steps.proofs.LineCalls.{Steps, machS}
+use Rattle.steps.proofs.LineCalls.{Steps, mach_s}
 use Rattle.steps.proofs.traced.put_traced.Proof.Calls.{PutOutcome, puts-outcome, SteppedBy, leaves}
 use Rattle.history.proofs.trace.trace.Symbol as trace-def
 use Rattle.history.proofs.trace.trace.Symbol.{name as #trace}
@@ -102,18 +102,18 @@ module _ {M : Type 1} {𝓤 : Ura M} (𝓛 : Logic 𝓤) (mem : Memory → SProp
   nbyte = length bytes
 
   abbrev a : Arg
-  a = (dk, (at-list binb oinb γinb inbs, (at-list boutb ooutb γoutb outbs, (at-list bhist ohist γhist hists, (at-list bwork owork γwork works, (at-list blot olot γlot lots, (at-list bbyte obyte γbyte bytes, (pos, (line, (non, tt))))))))))
+  a = (dk, (at_list binb oinb γinb inbs, (at_list boutb ooutb γoutb outbs, (at_list bhist ohist γhist hists, (at_list bwork owork γwork works, (at_list blot olot γlot lots, (at_list bbyte obyte γbyte bytes, (pos, (line, (non, tt))))))))))
 
   abbrev at : List Val × (List Val × (List Val × (List Val × (List Val × (List Val × (List Val × (List Val × (List Val × (List Val × Unit {0})))))))))
-  at = (machK dk ∷ [], (sv binb oinb ninb ∷ [], (sv boutb ooutb noutb ∷ [], (sv bhist ohist nhist ∷ [], (sv bwork owork nwork ∷ [], (sv blot olot nlot ∷ [], (sv bbyte obyte nbyte ∷ [], (vint w64 pos ∷ [], (vint w64 line ∷ [], (machN non ∷ [], tt))))))))))
+  at = (mach_k dk ∷ [], (sv binb oinb ninb ∷ [], (sv boutb ooutb noutb ∷ [], (sv bhist ohist nhist ∷ [], (sv bwork owork nwork ∷ [], (sv blot olot nlot ∷ [], (sv bbyte obyte nbyte ∷ [], (vint w64 pos ∷ [], (vint w64 line ∷ [], (mach_n non ∷ [], tt))))))))))
 
   abbrev Post : Val → SProp 𝓤
   Post = (walk_of 𝓛 f.ended stayed (f.clauses 𝓛 mem run)).post (((κinb, (κoutb, (κhist, (κwork, (κlot, (κbyte, tt)))))), (qinb, (qoutb, (qhist, (qwork, (qlot, (qbyte, tt)))))), tt, a, at), tt)
 
-  exits : Is Desks dk (machK dk ∷ []) → pos < 2 ^ 64 → line < 2 ^ 64 → Is Nonces non (machN non ∷ []) → (r : Stepped) → Is Steps r (machS r ∷ []) → (workw : List Lot) → length workw ≡ nwork → (lotw : List Lot) → length lotw ≡ nlot → (bytew : List ℕ) → length bytew ≡ nbyte → repliedOf r inbs outbs hists bytew ≡ replied line (page bytes pos) (answer (bookOf dk inbs outbs hists) (Call.Trace non)) → ent 𝓤 (⋆ 𝓛 (‵ ((ShrSlice (named 0) κinb u64).own_val (at-list binb oinb γinb inbs) (sv binb oinb ninb ∷ [])) ∷ ‵ (flft κinb qinb) ∷ ‵ ((ShrSlice (named 0) κoutb u64).own_val (at-list boutb ooutb γoutb outbs) (sv boutb ooutb noutb ∷ [])) ∷ ‵ (flft κoutb qoutb) ∷ ‵ ((ShrSlice (named 0) κhist u64).own_val (at-list bhist ohist γhist hists) (sv bhist ohist nhist ∷ [])) ∷ ‵ (flft κhist qhist) ∷ ‵ ((MutSlice (named 0) κwork R).own_val (at-list bwork owork γwork workw) (sv bwork owork nwork ∷ [])) ∷ ‵ (flft κwork qwork) ∷ ‵ ((MutSlice (named 0) κlot R).own_val (at-list blot olot γlot lotw) (sv blot olot nlot ∷ [])) ∷ ‵ (flft κlot qlot) ∷ ‵ ((MutSlice (named 0) κbyte u8).own_val (at-list bbyte obyte γbyte bytew) (sv bbyte obyte nbyte ∷ [])) ∷ ‵ (flft κbyte qbyte) ∷ [])) (Post (machS r))
+  exits : Is Desks dk (mach_k dk ∷ []) → pos < 2 ^ 64 → line < 2 ^ 64 → Is Nonces non (mach_n non ∷ []) → (r : Stepped) → Is Steps r (mach_s r ∷ []) → (workw : List Lot) → length workw ≡ nwork → (lotw : List Lot) → length lotw ≡ nlot → (bytew : List ℕ) → length bytew ≡ nbyte → replied_of r inbs outbs hists bytew ≡ replied line (page bytes pos) (answer (book_of dk inbs outbs hists) (Call.Trace non)) → ent 𝓤 (⋆ 𝓛 (‵ ((ShrSlice (named 0) κinb u64).own_val (at_list binb oinb γinb inbs) (sv binb oinb ninb ∷ [])) ∷ ‵ (flft κinb qinb) ∷ ‵ ((ShrSlice (named 0) κoutb u64).own_val (at_list boutb ooutb γoutb outbs) (sv boutb ooutb noutb ∷ [])) ∷ ‵ (flft κoutb qoutb) ∷ ‵ ((ShrSlice (named 0) κhist u64).own_val (at_list bhist ohist γhist hists) (sv bhist ohist nhist ∷ [])) ∷ ‵ (flft κhist qhist) ∷ ‵ ((MutSlice (named 0) κwork R).own_val (at_list bwork owork γwork workw) (sv bwork owork nwork ∷ [])) ∷ ‵ (flft κwork qwork) ∷ ‵ ((MutSlice (named 0) κlot R).own_val (at_list blot olot γlot lotw) (sv blot olot nlot ∷ [])) ∷ ‵ (flft κlot qlot) ∷ ‵ ((MutSlice (named 0) κbyte u8).own_val (at_list bbyte obyte γbyte bytew) (sv bbyte obyte nbyte ∷ [])) ∷ ‵ (flft κbyte qbyte) ∷ [])) (Post (mach_s r))
   exits isdk ispos isline isnon r isr workw lenwork lotw lenlot bytew lenbyte e =
-      qed 𝓛 (‵ ((ShrSlice (named 0) κinb u64).own_val (at-list binb oinb γinb inbs) (sv binb oinb ninb ∷ [])) ∷ ‵ (flft κinb qinb) ∷ ‵ ((ShrSlice (named 0) κoutb u64).own_val (at-list boutb ooutb γoutb outbs) (sv boutb ooutb noutb ∷ [])) ∷ ‵ (flft κoutb qoutb) ∷ ‵ ((ShrSlice (named 0) κhist u64).own_val (at-list bhist ohist γhist hists) (sv bhist ohist nhist ∷ [])) ∷ ‵ (flft κhist qhist) ∷ ‵ ((MutSlice (named 0) κwork R).own_val (at-list bwork owork γwork workw) (sv bwork owork nwork ∷ [])) ∷ ‵ (flft κwork qwork) ∷ ‵ ((MutSlice (named 0) κlot R).own_val (at-list blot olot γlot lotw) (sv blot olot nlot ∷ [])) ∷ ‵ (flft κlot qlot) ∷ ‵ ((MutSlice (named 0) κbyte u8).own_val (at-list bbyte obyte γbyte bytew) (sv bbyte obyte nbyte ∷ [])) ∷ ‵ (flft κbyte qbyte) ∷ []) ∵
-      suffices ! _ (ends_at 𝓛 f.ended stayed (f.clauses 𝓛 mem run) (((κinb, (κoutb, (κhist, (κwork, (κlot, (κbyte, tt)))))), (qinb, (qoutb, (qhist, (qwork, (qlot, (qbyte, tt)))))), tt, a, at), tt) (machS r) r (tt, (tt, (tt, (tt, (workw, (lotw, (bytew, (tt, (tt, (tt, tt)))))))))) (tt, (tt, (tt, (tt, (lenwork, (lenlot, (lenbyte, (tt, (tt, (tt, tt))))))))))) $ says ! e $
+      qed 𝓛 (‵ ((ShrSlice (named 0) κinb u64).own_val (at_list binb oinb γinb inbs) (sv binb oinb ninb ∷ [])) ∷ ‵ (flft κinb qinb) ∷ ‵ ((ShrSlice (named 0) κoutb u64).own_val (at_list boutb ooutb γoutb outbs) (sv boutb ooutb noutb ∷ [])) ∷ ‵ (flft κoutb qoutb) ∷ ‵ ((ShrSlice (named 0) κhist u64).own_val (at_list bhist ohist γhist hists) (sv bhist ohist nhist ∷ [])) ∷ ‵ (flft κhist qhist) ∷ ‵ ((MutSlice (named 0) κwork R).own_val (at_list bwork owork γwork workw) (sv bwork owork nwork ∷ [])) ∷ ‵ (flft κwork qwork) ∷ ‵ ((MutSlice (named 0) κlot R).own_val (at_list blot olot γlot lotw) (sv blot olot nlot ∷ [])) ∷ ‵ (flft κlot qlot) ∷ ‵ ((MutSlice (named 0) κbyte u8).own_val (at_list bbyte obyte γbyte bytew) (sv bbyte obyte nbyte ∷ [])) ∷ ‵ (flft κbyte qbyte) ∷ []) ∵
+      suffices ! _ (ends_at 𝓛 f.ended stayed (f.clauses 𝓛 mem run) (((κinb, (κoutb, (κhist, (κwork, (κlot, (κbyte, tt)))))), (qinb, (qoutb, (qhist, (qwork, (qlot, (qbyte, tt)))))), tt, a, at), tt) (mach_s r) r (tt, (tt, (tt, (tt, (workw, (lotw, (bytew, (tt, (tt, (tt, tt)))))))))) (tt, (tt, (tt, (tt, (lenwork, (lenlot, (lenbyte, (tt, (tt, (tt, tt))))))))))) $ says ! e $
       nothing ! $ move ! (12 ∷ 0 ∷ []) $ join ! $ move ! (10 ∷ 0 ∷ []) $ join ! $ move ! (8 ∷ 0 ∷ []) $ join ! $ move ! (6 ∷ 0 ∷ []) $ join ! $ move ! (4 ∷ 0 ∷ []) $ join ! $
       move ! (2 ∷ 0 ∷ []) $ join ! $ frame ! $ nothing ! $ owned ! Nonces (Is Nonces) ((LL.makes Nn.the_type Nn'.the_plain) 𝓛) non _ isnon $ fjoin ! $
       owned ! u64 (Is u64) (uint_Makes 𝓛 w64) line _ (refl, isline) $ fjoin ! $ owned ! usize (Is usize) (uint_Makes 𝓛 w64) pos _ (refl, ispos) $ fjoin ! $
@@ -122,13 +122,13 @@ module _ {M : Type 1} {𝓤 : Ura M} (𝓛 : Logic 𝓤) (mem : Memory → SProp
       owned ! Steps (Is Steps) ((LL.makes St.the_type St'.the_plain) 𝓛) r _ isr $ done !
 
   module _ (𝓣 : Tables 𝓤 H) (known-trace : Triple 𝓤 (𝓣.C #trace) (Trace 𝓛 mem run)) (known-outcome : Triple 𝓤 (𝓣.C #put-outcome) (PutOutcome 𝓛 mem run)) (Known-step : Triple 𝓤 (𝓣.C #stepped) (SteppedBy 𝓛 mem run)) where
-    walk : Is Desks dk (machK dk ∷ []) → Room u64 ninb → Room u64 noutb → Room u64 nhist → Room R nwork → Room R nlot → Room u8 nbyte → pos < 2 ^ 64 → line < 2 ^ 64 → Is Nonces non (machN non ∷ []) → HasTables dk.counts.records works lots → ent 𝓤 (on_entry 𝓛 f.signature (κinb, (κoutb, (κhist, (κwork, (κlot, (κbyte, tt)))))) (qinb, (qoutb, (qhist, (qwork, (qlot, (qbyte, tt)))))) a at) (WpFn 𝓤 H 𝓣.C 𝓣.Λ code.function (machK dk ∷ sv binb oinb ninb ∷ sv boutb ooutb noutb ∷ sv bhist ohist nhist ∷ sv bwork owork nwork ∷ sv blot olot nlot ∷ sv bbyte obyte nbyte ∷ vint w64 pos ∷ vint w64 line ∷ machN non ∷ []) Post)
+    walk : Is Desks dk (mach_k dk ∷ []) → Room u64 ninb → Room u64 noutb → Room u64 nhist → Room R nwork → Room R nlot → Room u8 nbyte → pos < 2 ^ 64 → line < 2 ^ 64 → Is Nonces non (mach_n non ∷ []) → HasTables dk.counts.records works lots → ent 𝓤 (on_entry 𝓛 f.signature (κinb, (κoutb, (κhist, (κwork, (κlot, (κbyte, tt)))))) (qinb, (qoutb, (qhist, (qwork, (qlot, (qbyte, tt)))))) a at) (WpFn 𝓤 H 𝓣.C 𝓣.Λ code.function (mach_k dk ∷ sv binb oinb ninb ∷ sv boutb ooutb noutb ∷ sv bhist ohist nhist ∷ sv bwork owork nwork ∷ sv blot olot nlot ∷ sv bbyte obyte nbyte ∷ vint w64 pos ∷ vint w64 line ∷ mach_n non ∷ []) Post)
     walk isdk roominb roomoutb roomhist roomwork roomlot roombyte ispos isline isnon req =
         qed 𝓛 ((‵ (flft κinb qinb) ⊛ (‵ (flft κoutb qoutb) ⊛ (‵ (flft κhist qhist) ⊛ (‵ (flft κwork qwork) ⊛ (‵ (flft κlot qlot) ⊛ (‵ (flft κbyte qbyte) ⊛ ‵ ftrue)))))) ∷ ‵ (owns (Desks ∷ ShrSlice (named 0) κinb u64 ∷ ShrSlice (named 1) κoutb u64 ∷ ShrSlice (named 2) κhist u64 ∷ MutSlice (named 3) κwork R ∷ MutSlice (named 4) κlot R ∷ MutSlice (named 5) κbyte u8 ∷ usize ∷ u64 ∷ Nonces ∷ []) a at) ∷ []) ∵
         split ! $ move ! (1 ∷ []) $ split ! $ move ! (1 ∷ []) $ split ! $ move ! (1 ∷ []) $ split ! $ move ! (1 ∷ []) $ split ! $ move ! (1 ∷ []) $ split ! $ move ! (7 ∷ []) $ fsplit ! $
         move ! (1 ∷ []) $ fsplit ! $ move ! (1 ∷ []) $ fsplit ! $ move ! (1 ∷ []) $ fsplit ! $ move ! (1 ∷ []) $ fsplit ! $ move ! (1 ∷ []) $ fsplit ! $ move ! (1 ∷ []) $ fsplit ! $
         keep ! (6 ∷ 14 ∷ 5 ∷ 13 ∷ 4 ∷ 12 ∷ 3 ∷ 11 ∷ 2 ∷ 10 ∷ 0 ∷ 8 ∷ []) $
-        enter ! 𝓣.C 𝓣.Λ code.function (machK dk ∷ sv binb oinb ninb ∷ sv boutb ooutb noutb ∷ sv bhist ohist nhist ∷ sv bwork owork nwork ∷ sv blot olot nlot ∷ sv bbyte obyte nbyte ∷ vint w64 pos ∷ vint w64 line ∷ machN non ∷ []) _ $
+        enter ! 𝓣.C 𝓣.Λ code.function (mach_k dk ∷ sv binb oinb ninb ∷ sv boutb ooutb noutb ∷ sv bhist ohist nhist ∷ sv bwork owork nwork ∷ sv blot olot nlot ∷ sv bbyte obyte nbyte ∷ vint w64 pos ∷ vint w64 line ∷ mach_n non ∷ []) _ $
         alloc1 ! (λ l₀. alloc1 ! (λ l₁. alloc1 ! (λ l₂. alloc1 ! (λ l₃. alloc1 ! (λ l₄. alloc1 ! (λ l₅. alloc1 ! (λ l₆. alloc1 ! (λ l₇. alloc1 ! (λ l₈. alloc1 ! (λ l₉. alloc1 ! (λ l₁₀.
         alloc1 ! (λ l₁₁. alloc1 ! (λ l₁₂. alloc1 ! (λ l₁₃. alloc1 ! (λ l₁₄. alloc1 ! (λ l₁₅. alloc1 ! (λ l₁₆. alloc1 ! (λ l₁₇. alloc1 ! (λ l₁₈. alloc1 ! (λ l₁₉. alloc1 ! (λ l₂₀. alloc0 ! $
         move ! (42 ∷ 43 ∷ 44 ∷ 45 ∷ 46 ∷ 47 ∷ 48 ∷ 49 ∷ 50 ∷ 51 ∷ 52 ∷ 53 ∷ []) $ params1 ! $ pass1 ! (init ! 50 refl ((LL.lawful Dk.the_type Dk'.the_laws 𝓛).typed dk _ isdk).0) $
@@ -164,7 +164,7 @@ module _ {M : Type 1} {𝓤 : Ura M} (𝓛 : Logic 𝓤) (mem : Memory → SProp
         move ! (36 ∷ 37 ∷ []) $ free1 ! $ move ! (34 ∷ 35 ∷ []) $ free1 ! $ move ! (32 ∷ 33 ∷ []) $ free1 ! $ move ! (30 ∷ 31 ∷ []) $ free1 ! $ move ! (28 ∷ 29 ∷ []) $ free1 ! $
         move ! (26 ∷ 27 ∷ []) $ free1 ! $ move ! (24 ∷ 25 ∷ []) $ free1 ! $ move ! (22 ∷ 23 ∷ []) $ free1 ! $ move ! (20 ∷ 21 ∷ []) $ free1 ! $ move ! (18 ∷ 19 ∷ []) $ free1 ! $
         move ! (16 ∷ 17 ∷ []) $ free1 ! $ move ! (14 ∷ 15 ∷ []) $ free1 ! $ move ! (12 ∷ 13 ∷ []) $ free1 ! $ free0 ! $
-        by ! (exits isdk ispos isline isnon r isr w' samew l' samel out' sameb (ap (λ (s : Stepped). repliedOf s inbs outbs hists out') left ∙ trace-replied (bookOf dk inbs outbs hists) works lots non reply w' l' req e line (page bytes pos) (page out' to) (told reply).number refl text))
+        by ! (exits isdk ispos isline isnon r isr w' samew l' samel out' sameb (ap (λ (s : Stepped). replied_of s inbs outbs hists out') left ∙ trace-replied (book_of dk inbs outbs hists) works lots non reply w' l' req e line (page bytes pos) (page out' to) (told reply).number refl text))
         ))))))))))))))))))))))))
 
 module _ {M : Type 1} {𝓤 : Ura M} (𝓛 : Logic 𝓤) (mem : Memory → SProp 𝓤) (run : Routine → Fun 𝓤) (𝓣 : Tables 𝓤 𝓛.H) (known-trace : Triple 𝓤 (𝓣.C #trace) (Trace 𝓛 mem run)) (known-outcome : Triple 𝓤 (𝓣.C #put-outcome) (PutOutcome 𝓛 mem run)) (Known-step : Triple 𝓤 (𝓣.C #stepped) (SteppedBy 𝓛 mem run)) where

@@ -1,6 +1,6 @@
 use Prim.Native.Nat.{◌*◌}
 use native.Mathlib.Omega.{arith}
-use Rattle.rules.specs.Tables.{depositShape}
+use Rattle.rules.specs.Tables.{deposit_shape}
 use Rattle.tables.proofs.Edits.{put-none}
 use borrow.Author.Rules.{rules}
 use Rattle.tables.proofs.rows.put_deposit.Statement.{statement}
@@ -10,7 +10,7 @@ use Rattle.tables.proofs.rows.put_deposit.Tie as tie
 returns : tie.Need-returns
 returns c =
     let a = c.before.before.args in
-    put-none (a.n * depositShape.width) (depositShape.flat a.x) a.inbox.now (omega (arith, c.if1.true))
+    put-none (a.n * deposit_shape.width) (deposit_shape.flat a.x) a.inbox.now (omega (arith, c.if1.true))
 
 mul-put-row : tie.Need-overflow-mul-put-row
 mul-put-row c = search rules

@@ -1,6 +1,6 @@
 use Prim.Native.Nat.{◌*◌}
 use native.Mathlib.Omega.{arith}
-use Rattle.rules.specs.Tables.{paymentShape}
+use Rattle.rules.specs.Tables.{payment_shape}
 use Rattle.tables.proofs.Edits.{put-none}
 use borrow.Author.Rules.{rules}
 use Rattle.tables.proofs.rows.put_payment.Statement.{statement}
@@ -10,7 +10,7 @@ use Rattle.tables.proofs.rows.put_payment.Tie as tie
 returns : tie.Need-returns
 returns c =
     let a = c.before.before.args in
-    put-none (a.n * paymentShape.width) (paymentShape.flat a.p) a.outbox.now (omega (arith, c.if1.true))
+    put-none (a.n * payment_shape.width) (payment_shape.flat a.p) a.outbox.now (omega (arith, c.if1.true))
 
 mul-put-row : tie.Need-overflow-mul-put-row
 mul-put-row c = search rules

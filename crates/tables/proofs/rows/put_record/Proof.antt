@@ -1,6 +1,6 @@
 use Prim.Native.Nat.{◌*◌}
 use native.Mathlib.Omega.{arith}
-use Rattle.rules.specs.Tables.{recordShape}
+use Rattle.rules.specs.Tables.{record_shape}
 use Rattle.tables.proofs.Edits.{put-none}
 use borrow.Author.Rules.{rules}
 use Rattle.tables.proofs.rows.put_record.Statement.{statement}
@@ -10,7 +10,7 @@ use Rattle.tables.proofs.rows.put_record.Tie as tie
 returns : tie.Need-returns
 returns c =
     let a = c.before.before.args in
-    put-none (a.n * recordShape.width) (recordShape.flat a.r) a.history.now (omega (arith, c.if1.true))
+    put-none (a.n * record_shape.width) (record_shape.flat a.r) a.history.now (omega (arith, c.if1.true))
 
 mul-put-row : tie.Need-overflow-mul-put-row
 mul-put-row c = search rules

@@ -39,11 +39,11 @@ use denote.Triple.Entry.{on_entry}
 use denote.Triple.Spec.{Meets, triple_of}
 use denote.Triple.Table.{entered}
 use denote.Triple.Walked.{says, Stays, stay_slice, stay_none, walk_of, Walks, ends_at, walked, Goes-slice, Goes-none, walk_Meets}
-use Rattle.rules.specs.Lots.{noLot}
+use Rattle.rules.specs.Lots.{no_lot}
 use Rattle.rules.specs.declared.rows.Lot.{Lot}
 use Rattle.rules.specs.contracts.rows.Lot as T
 use Rattle.rules.proofs.rows.Lot.TheLaws as T'
-use Rattle.takings.proofs.Values.{R, machOf}
+use Rattle.takings.proofs.Values.{R, mach_of}
 use Rattle.takings.proofs.Appending.{append-set}
 use Rattle.takings.specs.contracts.rows.append.Key.{name as #append}
 use Rattle.takings.specs.contracts.rows.append as f
@@ -77,12 +77,12 @@ module _ {M : Type 1} {𝓤 : Ura M} (𝓛 : Logic 𝓤) (mem : Memory → SProp
   a = (x ys, (i, (lot, tt)))
 
   abbrev at : List Val × (List Val × (List Val × Unit {0}))
-  at = (s ∷ [], (vint w64 i ∷ [], (machOf lot ∷ [], tt)))
+  at = (s ∷ [], (vint w64 i ∷ [], (mach_of lot ∷ [], tt)))
 
   abbrev Post : Val → SProp 𝓤
   Post = (walk_of 𝓛 f.ended stayed (f.clauses 𝓛 mem run)).post (((κ, tt), (q, tt), tt, a, at), tt)
 
-  exits : (zs : List Lot) → zs ≡ set ys i lot → length zs ≡ length ys → i < 2 ^ 64 → Is R lot (machOf lot ∷ []) → ent 𝓤 (⋆ 𝓛 (‵ ((MutSlice (named 0) κ R).own_val (x zs) (s ∷ [])) ∷ ‵ (flft κ q) ∷ [])) (Post vunit)
+  exits : (zs : List Lot) → zs ≡ set ys i lot → length zs ≡ length ys → i < 2 ^ 64 → Is R lot (mach_of lot ∷ []) → ent 𝓤 (⋆ 𝓛 (‵ ((MutSlice (named 0) κ R).own_val (x zs) (s ∷ [])) ∷ ‵ (flft κ q) ∷ [])) (Post vunit)
   exits zs e len gi gv =
       qed 𝓛 (‵ ((MutSlice (named 0) κ R).own_val (x zs) (s ∷ [])) ∷ ‵ (flft κ q) ∷ []) ∵
       suffices ! _ (ends_at 𝓛 f.ended stayed (f.clauses 𝓛 mem run) (((κ, tt), (q, tt), tt, a, at), tt) vunit tt (zs, (tt, (tt, tt))) (len, (tt, (tt, tt)))) $ says ! (e ∙ sym (append-set i ys lot)) $
@@ -91,9 +91,9 @@ module _ {M : Type 1} {𝓤 : Ura M} (𝓛 : Logic 𝓤) (mem : Memory → SProp
       feq_i ! (List Val) (vunit ∷ []) (vunit ∷ []) refl $ move ! (1 ∷ 0 ∷ []) $ done !
 
   module _ (C : Calls 𝓤 H) (Λ : Loops 𝓤 H) where
-    walk : Room R (length ys) → i < 2 ^ 64 → Is R lot (machOf lot ∷ []) → ent 𝓤 (on_entry 𝓛 f.signature (κ, tt) (q, tt) a at) (WpFn 𝓤 H C Λ code.function (s ∷ vint w64 i ∷ machOf lot ∷ []) Post)
+    walk : Room R (length ys) → i < 2 ^ 64 → Is R lot (mach_of lot ∷ []) → ent 𝓤 (on_entry 𝓛 f.signature (κ, tt) (q, tt) a at) (WpFn 𝓤 H C Λ code.function (s ∷ vint w64 i ∷ mach_of lot ∷ []) Post)
     walk gn gi gv =
-        qed 𝓛 ((‵ (flft κ q) ⊛ ‵ ftrue) ∷ ‵ (owns (MutSlice (named 0) κ R ∷ usize ∷ R ∷ []) a at) ∷ []) ∵ split ! $ move ! (2 ∷ []) $ fsplit ! $ keep ! (0 ∷ 2 ∷ []) $ enter ! C Λ code.function (s ∷ vint w64 i ∷ machOf lot ∷ []) _ $
+        qed 𝓛 ((‵ (flft κ q) ⊛ ‵ ftrue) ∷ ‵ (owns (MutSlice (named 0) κ R ∷ usize ∷ R ∷ []) a at) ∷ []) ∵ split ! $ move ! (2 ∷ []) $ fsplit ! $ keep ! (0 ∷ 2 ∷ []) $ enter ! C Λ code.function (s ∷ vint w64 i ∷ mach_of lot ∷ []) _ $
         alloc1 ! (λ l₀. alloc1 ! (λ l₁. alloc1 ! (λ l₂. alloc1 ! (λ l₃. alloc1 ! (λ l₄. alloc1 ! (λ l₅. alloc1 ! (λ l₆. alloc1 ! (λ l₇. alloc0 ! $ move ! (16 ∷ 17 ∷ []) $ params1 ! $
         pass1 ! (init ! 14 refl (tt, (tt, (record { fits = gn.0 }, tt)))) $ pass1 ! (init ! 12 refl (tt, record { fits = gi })) $ pass1 ! (init ! 10 refl ((LL.lawful T.the_type T'.the_laws 𝓛).typed lot _ gv).0) $ pass0 ! $
         -- [what lots owns; the token; _7; …; _6; …; _5; …; _4; …; _3; …; _2; …; _1; …; room for _0; …]
@@ -106,10 +106,10 @@ module _ {M : Type 1} {𝓤 : Ura M} (𝓛 : Logic 𝓤) (mem : Memory → SProp
         assigns ! (bin ! (load ! (from ! (fld ! refl (stop !))) (look_in ! 14 (sub ! 0 refl (whole !)))) (load ! (from ! (stop !)) (look ! 4 refl)) tt) (from ! (stop !)) (init ! 2 refl (tt, tt)) $
         rewrite ! 2 (λ (p : ℕ). ‵ (fat full_share ty_ptr l₇ 0 (vptr b p))) (sym (place_is 32 o i)) refl $
         fsplit ! $ move ! (1 ∷ []) $ fsplit ! $ move ! (0 ∷ 1 ∷ 3 ∷ []) $
-        opens_slice ! tt R ys b o $ elem_out ! R (Is R) (shows 𝓛 R) (LL.vals T.the_type T'.the_laws) (LL.tells T.the_type T'.the_laws) full_share ys i noLot b o l (λ _.
+        opens_slice ! tt R ys b o $ elem_out ! R (Is R) (shows 𝓛 R) (LL.vals T.the_type T'.the_laws) (LL.tells T.the_type T'.the_laws) full_share ys i no_lot b o l (λ _.
         -- [lots[i]; what it owns; the others; the open borrow; obs; auth; lots's fact; _7; …]
         assigns_last ! (of_opd ! (load ! (from ! (stop !)) (look ! 15 refl))) (from ! (hop ! (look ! 7 refl) (stop !))) (store_raw ! 0 refl ((LL.lawful T.the_type T'.the_laws 𝓛).typed lot _ gv).0) $ exec ! C Λ _ rest (at_ret _ Post) $
-        move ! (1 ∷ []) $ drop ! $ owned ! R (Is R) ((LL.makes T.the_type T'.the_plain) 𝓛) lot _ gv $ move ! (1 ∷ 0 ∷ []) $ elem_put ! R full_share ys i lot (machOf lot ∷ []) b o l $
+        move ! (1 ∷ []) $ drop ! $ owned ! R (Is R) ((LL.makes T.the_type T'.the_plain) 𝓛) lot _ gv $ move ! (1 ∷ 0 ∷ []) $ elem_put ! R full_share ys i lot (mach_of lot ∷ []) b o l $
         closes_slice ! tt R ys (set ys i lot) (length-set ys i lot) b o $ move ! (0 ∷ 1 ∷ []) $ fjoin ! $ pure_i ! (mut_slice_at R (x (set ys i lot)) (s ∷ [])) (tt, (tt, tt)) (ap (λ (m : ℕ). slice_val (b, o) m ∷ []) (sym (length-set ys i lot)), subst (Room R) (sym (length-set ys i lot)) gn) $ fjoin ! $ move ! (2 ∷ []) $ drop ! $
         assigns ! (of_opd ! (unit_lit !)) (from ! (stop !)) (init ! 16 refl (tt, tt)) $
         returns ! (look ! 16 refl) $ forget ! 16 refl $ forget ! 14 refl $ forget ! 12 refl $ forget ! 10 refl $ forget ! 8 refl $ forget ! 6 refl $ forget ! 4 refl $ forget ! 2 refl $

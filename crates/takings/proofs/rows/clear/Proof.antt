@@ -38,14 +38,14 @@ use mathlib.Core.List.{◌++◌}
 use lib.ListN.{replicate-append-replicate}
 use lib.Seq.{take-suc-set, take_all}
 use Rattle.rules.specs.declared.rows.Lot.{Lot}
-use Rattle.rules.specs.Lots.{noLot}
+use Rattle.rules.specs.Lots.{no_lot}
 use Rattle.rules.specs.contracts.rows.Lot as T
 use Rattle.rules.proofs.rows.Lot.TheLaws as T'
 use Rattle.rules.specs.contracts.rows.DepositNumber as Dn
 use Rattle.rules.proofs.rows.DepositNumber.TheLaws as Dn'
 use Rattle.takings.proofs.Loop.{tests, next_fits, less, less_wf}
 use Rattle.takings.proofs.Locals.{local, part, slice_at}
-use Rattle.takings.proofs.Values.{R, machOf, no-number-is, zeros-is, at-list, sv, word, refmut, refm, places, cell, spare}
+use Rattle.takings.proofs.Values.{R, mach_of, no_number_is, zeros_is, at_list, sv, word, refmut, refm, places, cell, spare}
 use Rattle.takings.proofs.Appending.{append-set}
 use Rattle.takings.proofs.LotCalls.{Append, appends}
 use Rattle.takings.proofs.rows.append.Symbol as append-def
@@ -69,7 +69,7 @@ record St (n : ℕ) : Type 0 where
   zs : List Lot
   len : length zs ≡ n
   upto : i ≤ n
-  cleared : take i zs ≡ replicate i noLot
+  cleared : take i zs ≡ replicate i no_lot
 
 abbrev μ : {n : ℕ} → St n → ℕ
 μ {n} t = n - t.i
@@ -77,20 +77,20 @@ abbrev μ : {n : ℕ} → St n → ℕ
 abbrev start : (ys : List Lot) → St (length ys)
 start ys = record { i = 0; zs = ys; len = refl; upto = omega arith; cleared = refl }
 
-step-cleared : (zs ws : List Lot) (i : ℕ) → i < length zs → ws ≡ set zs i noLot → take i zs ≡ replicate i noLot → take (i + 1) ws ≡ replicate (i + 1) noLot
-step-cleared zs ws i l e c = ap (take (i + 1)) e ∙ ap (λ (k : ℕ). take k (set zs i noLot)) (add-one i) ∙ take-suc-set zs i noLot l ∙ ap (λ (p : List Lot). p ++ (noLot ∷ [])) c ∙ replicate-append-replicate i 1 noLot
+step-cleared : (zs ws : List Lot) (i : ℕ) → i < length zs → ws ≡ set zs i no_lot → take i zs ≡ replicate i no_lot → take (i + 1) ws ≡ replicate (i + 1) no_lot
+step-cleared zs ws i l e c = ap (take (i + 1)) e ∙ ap (λ (k : ℕ). take k (set zs i no_lot)) (add-one i) ∙ take-suc-set zs i no_lot l ∙ ap (λ (p : List Lot). p ++ (no_lot ∷ [])) c ∙ replicate-append-replicate i 1 no_lot
 
-abbrev next : {n : ℕ} (t : St n) (ws : List Lot) → t.i < n → length ws ≡ length t.zs → ws ≡ set t.zs t.i noLot → St n
+abbrev next : {n : ℕ} (t : St n) (ws : List Lot) → t.i < n → length ws ≡ length t.zs → ws ≡ set t.zs t.i no_lot → St n
 next {n} t ws l e s = record { i = t.i + 1; zs = ws; len = e ∙ t.len; upto = omega arith; cleared = step-cleared t.zs ws t.i (subst (λ (m : ℕ). t.i < m) (sym t.len) l) s t.cleared }
 
 falls : {n : ℕ} (t : St n) → t.i < n → n - (t.i + 1) < n - t.i
 falls t l = omega arith
 
-ended_at : {n : ℕ} (t : St n) → n ≤ t.i → t.zs ≡ replicate n noLot
+ended_at : {n : ℕ} (t : St n) → n ≤ t.i → t.zs ≡ replicate n no_lot
 ended_at {n} t out =
     let whole-list : length t.zs ≤ t.i = subst (λ (m : ℕ). m ≤ t.i) (sym t.len) out in
     let same : t.i ≡ n = omega (arith, t.upto) in
-    sym (take_all t.i t.zs whole-list) ∙ t.cleared ∙ ap (λ (k : ℕ). replicate k noLot) same
+    sym (take_all t.i t.zs whole-list) ∙ t.cleared ∙ ap (λ (k : ℕ). replicate k no_lot) same
 
 module _ {M : Type 1} {𝓤 : Ura M} (𝓛 : Logic 𝓤) (mem : Memory → SProp 𝓤) (run : Routine → Fun 𝓤) (κlot : Lft) (qlot : Share) (blot olot : ℕ) (γlot : GName) (lots : List Lot) where
   open 𝓛 use {H}
@@ -99,7 +99,7 @@ module _ {M : Type 1} {𝓤 : Ura M} (𝓛 : Logic 𝓤) (mem : Memory → SProp
   nlot = length lots
 
   abbrev a : Arg
-  a = (at-list blot olot γlot lots, tt)
+  a = (at_list blot olot γlot lots, tt)
 
   abbrev at : List Val × Unit {0}
   at = (sv blot olot nlot ∷ [], tt)
@@ -107,9 +107,9 @@ module _ {M : Type 1} {𝓤 : Ura M} (𝓛 : Logic 𝓤) (mem : Memory → SProp
   abbrev Post : Val → SProp 𝓤
   Post = (walk_of 𝓛 f.ended stayed (f.clauses 𝓛 mem run)).post (((κlot, tt), (qlot, tt), tt, a, at), tt)
 
-  exits : (lotw : List Lot) → length lotw ≡ nlot → lotw ≡ replicate nlot noLot → ent 𝓤 (⋆ 𝓛 (‵ ((MutSlice (named 0) κlot R).own_val (at-list blot olot γlot lotw) (sv blot olot nlot ∷ [])) ∷ ‵ (flft κlot qlot) ∷ [])) (Post vunit)
+  exits : (lotw : List Lot) → length lotw ≡ nlot → lotw ≡ replicate nlot no_lot → ent 𝓤 (⋆ 𝓛 (‵ ((MutSlice (named 0) κlot R).own_val (at_list blot olot γlot lotw) (sv blot olot nlot ∷ [])) ∷ ‵ (flft κlot qlot) ∷ [])) (Post vunit)
   exits lotw lenlot e =
-      qed 𝓛 (‵ ((MutSlice (named 0) κlot R).own_val (at-list blot olot γlot lotw) (sv blot olot nlot ∷ [])) ∷ ‵ (flft κlot qlot) ∷ []) ∵
+      qed 𝓛 (‵ ((MutSlice (named 0) κlot R).own_val (at_list blot olot γlot lotw) (sv blot olot nlot ∷ [])) ∷ ‵ (flft κlot qlot) ∷ []) ∵
       suffices ! _ (ends_at 𝓛 f.ended stayed (f.clauses 𝓛 mem run) (((κlot, tt), (qlot, tt), tt, a, at), tt) vunit tt (lotw, tt) (lenlot, tt)) $ says ! e $
       nothing ! $ move ! (2 ∷ 0 ∷ []) $ join ! $ frame ! $ nothing ! $ move ! (1 ∷ 0 ∷ []) $ fjoin ! $ frame ! $ feq_i ! (List Val) (vunit ∷ []) (vunit ∷ []) refl $ done !
 
@@ -117,7 +117,7 @@ module _ {M : Type 1} {𝓤 : Ura M} (𝓛 : Logic 𝓤) (mem : Memory → SProp
     -- the whole context at the loop's head
     abbrev I : ℕ → ℕ → ℕ → ℕ → ℕ → ℕ → ℕ → ℕ → ℕ → ℕ → St nlot → List (Item 𝓤)
     I l₀ l₁ l₂ l₃ l₄ l₅ l₆ l₇ l₈ l₉ t =
-        ‵ ((MutSlice (named 0) κlot R).own_val (at-list blot olot γlot t.zs) (sv blot olot nlot ∷ [])) ∷ ‵ (flft κlot qlot) ∷ (spare (slice_ty refm) l₉ (spare refm l₈ (spare ty_unit l₇ (spare ty_bool l₆ (spare word l₅ (spare Dn'.mir l₄ (cell word l₃ (vint w64 t.i) (cell T'.mir l₂ (machOf noLot) (cell (slice_ty (refmut 0)) l₁ (sv blot olot nlot) (spare ty_unit l₀ []))))))))))
+        ‵ ((MutSlice (named 0) κlot R).own_val (at_list blot olot γlot t.zs) (sv blot olot nlot ∷ [])) ∷ ‵ (flft κlot qlot) ∷ (spare (slice_ty refm) l₉ (spare refm l₈ (spare ty_unit l₇ (spare ty_bool l₆ (spare word l₅ (spare Dn'.mir l₄ (cell word l₃ (vint w64 t.i) (cell T'.mir l₂ (mach_of no_lot) (cell (slice_ty (refmut 0)) l₁ (sv blot olot nlot) (spare ty_unit l₀ []))))))))))
 
     walk : Room R nlot → ent 𝓤 (on_entry 𝓛 f.signature (κlot, tt) (qlot, tt) a at) (WpFn 𝓤 H 𝓣.C 𝓣.Λ code.function (sv blot olot nlot ∷ []) Post)
     unfolding after_turn
@@ -127,8 +127,8 @@ module _ {M : Type 1} {𝓤 : Ura M} (𝓛 : Logic 𝓤) (mem : Memory → SProp
         alloc1 ! (λ l₃. alloc1 ! (λ l₄. alloc1 ! (λ l₅. alloc1 ! (λ l₆. alloc1 ! (λ l₇. alloc1 ! (λ l₈. alloc1 ! (λ l₉. alloc0 ! $ move ! (20 ∷ 21 ∷ []) $ params1 ! $
         pass1 ! (init ! 18 refl (tt, (tt, (record { fits = roomlot.0 }, tt)))) $ pass0 ! $
         -- [what lots owns; its token; _9; …; and so on to _1; …; room for _0; …]
-        assigns ! (agg ! (and_then ! (lit ! tt) (no_more !))) (from ! (stop !)) (init ! 12 refl ((LL.lawful Dn.the_type Dn'.the_laws 𝓛).typed (record { 0 = 0 }) _ no-number-is).0) $
-        assigns ! (agg ! (and_then ! (lit ! tt) (and_then ! (lit ! tt) (and_then ! (local ! 12 refl) (and_then ! (lit ! tt) (no_more !)))))) (from ! (stop !)) (init ! 16 refl ((LL.lawful T.the_type T'.the_laws 𝓛).typed noLot _ zeros-is).0) $
+        assigns ! (agg ! (and_then ! (lit ! tt) (no_more !))) (from ! (stop !)) (init ! 12 refl ((LL.lawful Dn.the_type Dn'.the_laws 𝓛).typed (record { 0 = 0 }) _ no_number_is).0) $
+        assigns ! (agg ! (and_then ! (lit ! tt) (and_then ! (lit ! tt) (and_then ! (local ! 12 refl) (and_then ! (lit ! tt) (no_more !)))))) (from ! (stop !)) (init ! 16 refl ((LL.lawful T.the_type T'.the_laws 𝓛).typed no_lot _ zeros_is).0) $
         forget ! 12 refl $ assigns ! (of_opd ! (lit ! tt)) (from ! (stop !)) (init ! 14 refl (tt, record { fits = lit< tt })) $
         first ! $ blocks ! $ loops ! 𝓣 (less μ) (less_wf μ) (I l₀ l₁ l₂ l₃ l₄ l₅ l₆ l₇ l₈ l₉) (λ t.
         assigns ! (of_opd ! (part ! 18 1 refl refl refl)) (from ! (stop !)) (init ! 10 refl (tt, record { fits = roomlot.0 })) $
@@ -137,10 +137,10 @@ module _ {M : Type 1} {𝓤 : Ura M} (𝓛 : Logic 𝓤) (mem : Memory → SProp
         -- a row is written
         assigns ! (slice_at ! 18 refl refl refl) (from ! (stop !)) (init ! 4 refl (tt, tt)) $
         assigns ! (agg ! (and_then ! (local ! 4 refl) (and_then ! (part ! 18 1 refl refl refl) (no_more !)))) (from ! (stop !)) (init ! 2 refl (tt, (tt, (record { fits = roomlot.0 }, tt)))) $
-        appends ! blot olot nlot t.zs t.i noLot mem run 𝓣 known-append t.len roomlot fits zeros-is (λ ν δ. (and_then ! (local ! 2 refl) (and_then ! (local ! 14 refl) (and_then ! (local ! 16 refl) (no_more !))))) (λ ws same e.
+        appends ! blot olot nlot t.zs t.i no_lot mem run 𝓣 known-append t.len roomlot fits zeros_is (λ ν δ. (and_then ! (local ! 2 refl) (and_then ! (local ! 14 refl) (and_then ! (local ! 16 refl) (no_more !))))) (λ ws same e.
         land ! (from ! (stop !)) (init ! 6 refl (tt, tt)) $
         assigns_last ! (bin ! (local ! 14 refl) (lit ! tt) (record { fits = next_fits })) (from ! (stop !)) (store ! 14 refl (tt, record { fits = next_fits })) $ forget ! 10 refl $
-        forget ! 8 refl $ forget ! 6 refl $ forget ! 4 refl $ forget ! 2 refl $ again ! (less μ) (I l₀ l₁ l₂ l₃ l₄ l₅ l₆ l₇ l₈ l₉) t (next t ws more same (e ∙ append-set t.i t.zs noLot)) (falls t more))) (λ no.
+        forget ! 8 refl $ forget ! 6 refl $ forget ! 4 refl $ forget ! 2 refl $ again ! (less μ) (I l₀ l₁ l₂ l₃ l₄ l₅ l₆ l₇ l₈ l₉) t (next t ws more same (e ∙ append-set t.i t.zs no_lot)) (falls t more))) (λ no.
         -- the loop is left
         exec ! 𝓣.C 𝓣.Λ (places codeMir.locals (l₀ ∷ l₁ ∷ l₂ ∷ l₃ ∷ l₄ ∷ l₅ ∷ l₆ ∷ l₇ ∷ l₈ ∷ l₉ ∷ [])) codeMir.t-5 (at_ret (places codeMir.locals (l₀ ∷ l₁ ∷ l₂ ∷ l₃ ∷ l₄ ∷ l₅ ∷ l₆ ∷ l₇ ∷ l₈ ∷ l₉ ∷ [])) Post) $
         assigns ! (of_opd ! (unit_lit !)) (from ! (stop !)) (init ! 20 refl (tt, tt)) $

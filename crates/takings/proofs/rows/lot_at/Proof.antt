@@ -37,11 +37,11 @@ use denote.Triple.Entry.{on_entry}
 use denote.Triple.Spec.{Meets, triple_of}
 use denote.Triple.Table.{entered}
 use denote.Triple.Walked.{says, Stays, stay_none_slice, stay_none, walk_of, Walks, ends_at, walked, Goes-none_slice, Goes-none, walk_Meets}
-use Rattle.rules.specs.Lots.{noLot}
+use Rattle.rules.specs.Lots.{no_lot}
 use Rattle.rules.specs.declared.rows.Lot.{Lot}
 use Rattle.rules.specs.contracts.rows.Lot as T
 use Rattle.rules.proofs.rows.Lot.TheLaws as T'
-use Rattle.takings.proofs.Values.{R, machOf, no-number-is, zeros-is}
+use Rattle.takings.proofs.Values.{R, mach_of, no_number_is, zeros_is}
 use Rattle.rules.specs.contracts.rows.DepositNumber as Dn
 use Rattle.rules.proofs.rows.DepositNumber.TheLaws as Dn'
 use Rattle.takings.specs.contracts.rows.lot_at.Key.{name as #lot-at}
@@ -73,7 +73,7 @@ module _ {M : Type 1} {𝓤 : Ura M} (𝓛 : Logic 𝓤) (mem : Memory → SProp
   s = slice_val (b, o) (length ys)
 
   abbrev elem : Lot
-  elem = get_or ys i noLot
+  elem = get_or ys i no_lot
 
   abbrev at : List Val × (List Val × Unit {0})
   at = (s ∷ [], (vint w64 i ∷ [], tt))
@@ -81,10 +81,10 @@ module _ {M : Type 1} {𝓤 : Ura M} (𝓛 : Logic 𝓤) (mem : Memory → SProp
   abbrev Post : Val → SProp 𝓤
   Post = (walk_of 𝓛 f.ended stayed (f.clauses 𝓛 mem run)).post (((κ, tt), (q, tt), tt, x, at), tt)
 
-  exits : (r : Lot) → r ≡ elem → Is R r (machOf r ∷ []) → i < 2 ^ 64 → ent 𝓤 (⋆ 𝓛 (‵ ((ShrSlice (named 0) κ R).own_val x.0 (s ∷ [])) ∷ ‵ (flft κ q) ∷ [])) (Post (machOf r))
+  exits : (r : Lot) → r ≡ elem → Is R r (mach_of r ∷ []) → i < 2 ^ 64 → ent 𝓤 (⋆ 𝓛 (‵ ((ShrSlice (named 0) κ R).own_val x.0 (s ∷ [])) ∷ ‵ (flft κ q) ∷ [])) (Post (mach_of r))
   exits r e g gi =
       qed 𝓛 (‵ ((ShrSlice (named 0) κ R).own_val x.0 (s ∷ [])) ∷ ‵ (flft κ q) ∷ []) ∵
-      suffices ! _ (ends_at 𝓛 f.ended stayed (f.clauses 𝓛 mem run) (((κ, tt), (q, tt), tt, x, at), tt) (machOf r) r (tt, (tt, tt)) (tt, (tt, tt))) $ says ! e $
+      suffices ! _ (ends_at 𝓛 f.ended stayed (f.clauses 𝓛 mem run) (((κ, tt), (q, tt), tt, x, at), tt) (mach_of r) r (tt, (tt, tt)) (tt, (tt, tt))) $ says ! e $
       nothing ! $ move ! (2 ∷ 0 ∷ []) $ join ! $ frame ! $ nothing ! $ owned ! usize (Is usize) (uint_Makes 𝓛 w64) i _ (refl, gi) $ fjoin ! $ move ! (1 ∷ 0 ∷ []) $ fjoin ! $ frame ! $
       owned ! R (Is R) ((LL.makes T.the_type T'.the_plain) 𝓛) r _ g $ done !
 
@@ -105,21 +105,21 @@ module _ {M : Type 1} {𝓤 : Ura M} (𝓛 : Logic 𝓤) (mem : Memory → SProp
         rewrite ! 6 (λ (p : ℕ). ‵ (fat full_share ty_ptr l₇ 0 (vptr b p))) (sym (place_is 32 o i)) refl $
         fsplit ! $ move ! (1 ∷ []) $ fsplit ! $ move ! (1 ∷ 3 ∷ []) $
         looks_slice ! tt R (Is R) (shows 𝓛 R) (LL.vals T.the_type T'.the_laws) (LL.tells T.the_type T'.the_laws) ((LL.copy T.the_type T'.the_copy) 𝓛) ys b o (λ q'.
-        elem_out ! R (Is R) (shows 𝓛 R) (LL.vals T.the_type T'.the_laws) (LL.tells T.the_type T'.the_laws) q' ys i noLot b o l (λ g.
+        elem_out ! R (Is R) (shows 𝓛 R) (LL.vals T.the_type T'.the_laws) (LL.tells T.the_type T'.the_laws) q' ys i no_lot b o l (λ g.
         -- [lots[i]; what it owns; the others; what shuts; the fractured borrow; res; lots's fact; _9; …]
         assigns ! (of_opd ! (load ! (from ! (hop ! (look ! 11 refl) (stop !))) (look_raw ! 0 refl))) (from ! (stop !)) (init ! 9 refl ((LL.lawful T.the_type T'.the_laws 𝓛).typed elem _ g).0) $
-        elem_back ! R q' ys i noLot (machOf elem ∷ []) b o l $ shuts_slice ! tt R q' ys b o $
+        elem_back ! R q' ys i no_lot (mach_of elem ∷ []) b o l $ shuts_slice ! tt R q' ys b o $
         move ! (2 ∷ 1 ∷ []) $ fjoin ! $ move ! (2 ∷ 0 ∷ []) $ fjoin ! $
         assigns_last ! (of_opd ! (load ! (from ! (stop !)) (look ! 4 refl))) (from ! (stop !)) (init ! 10 refl ((LL.lawful T.the_type T'.the_laws 𝓛).typed elem _ g).0) $ forget ! 8 refl $ forget ! 6 refl $ forget ! 4 refl $
         exec ! C Λ _ rest (at_ret _ Post) $
         assigns ! (of_opd ! (load ! (from ! (stop !)) (look ! 10 refl))) (from ! (stop !)) (init ! 20 refl ((LL.lawful T.the_type T'.the_laws 𝓛).typed elem _ g).0) $
         returns ! (look ! 20 refl) $ forget ! 20 refl $ forget ! 18 refl $ forget ! 16 refl $ forget ! 14 refl $ forget ! 12 refl $ forget ! 10 refl $ move ! (20 ∷ 21 ∷ []) $ free1 ! $ move ! (18 ∷ 19 ∷ []) $ free1 ! $ move ! (16 ∷ 17 ∷ []) $ free1 ! $ move ! (14 ∷ 15 ∷ []) $ free1 ! $ move ! (12 ∷ 13 ∷ []) $ free1 ! $ move ! (10 ∷ 11 ∷ []) $ free1 ! $ move ! (8 ∷ 9 ∷ []) $ free1 ! $ move ! (6 ∷ 7 ∷ []) $ free1 ! $ move ! (4 ∷ 5 ∷ []) $ free1 ! $ move ! (2 ∷ 3 ∷ []) $ free1 ! $ free0 ! $ by ! (exits elem refl g gi))))
         (λ z.
-        assigns ! (agg ! (and_then ! (lit ! tt) (no_more !))) (from ! (stop !)) (init ! 2 refl ((LL.lawful Dn.the_type Dn'.the_laws 𝓛).typed (record { 0 = 0 }) _ no-number-is).0) $
-        assigns_last ! (agg ! (and_then ! (lit ! tt) (and_then ! (lit ! tt) (and_then ! (load ! (from ! (stop !)) (look ! 2 refl)) (and_then ! (lit ! tt) (no_more !)))))) (from ! (stop !)) (init ! 10 refl ((LL.lawful T.the_type T'.the_laws 𝓛).typed noLot _ zeros-is).0) $ forget ! 2 refl $
+        assigns ! (agg ! (and_then ! (lit ! tt) (no_more !))) (from ! (stop !)) (init ! 2 refl ((LL.lawful Dn.the_type Dn'.the_laws 𝓛).typed (record { 0 = 0 }) _ no_number_is).0) $
+        assigns_last ! (agg ! (and_then ! (lit ! tt) (and_then ! (lit ! tt) (and_then ! (load ! (from ! (stop !)) (look ! 2 refl)) (and_then ! (lit ! tt) (no_more !)))))) (from ! (stop !)) (init ! 10 refl ((LL.lawful T.the_type T'.the_laws 𝓛).typed no_lot _ zeros_is).0) $ forget ! 2 refl $
         exec ! C Λ _ rest (at_ret _ Post) $
-        assigns ! (of_opd ! (load ! (from ! (stop !)) (look ! 10 refl))) (from ! (stop !)) (init ! 20 refl ((LL.lawful T.the_type T'.the_laws 𝓛).typed noLot _ zeros-is).0) $
-        returns ! (look ! 20 refl) $ forget ! 20 refl $ forget ! 18 refl $ forget ! 16 refl $ forget ! 14 refl $ forget ! 12 refl $ forget ! 10 refl $ move ! (20 ∷ 21 ∷ []) $ free1 ! $ move ! (18 ∷ 19 ∷ []) $ free1 ! $ move ! (16 ∷ 17 ∷ []) $ free1 ! $ move ! (14 ∷ 15 ∷ []) $ free1 ! $ move ! (12 ∷ 13 ∷ []) $ free1 ! $ move ! (10 ∷ 11 ∷ []) $ free1 ! $ move ! (8 ∷ 9 ∷ []) $ free1 ! $ move ! (6 ∷ 7 ∷ []) $ free1 ! $ move ! (4 ∷ 5 ∷ []) $ free1 ! $ move ! (2 ∷ 3 ∷ []) $ free1 ! $ free0 ! $ by ! (exits noLot (sym (get_or-eq_default ys noLot (nltb→le i (length ys) z))) zeros-is gi))))))))))))
+        assigns ! (of_opd ! (load ! (from ! (stop !)) (look ! 10 refl))) (from ! (stop !)) (init ! 20 refl ((LL.lawful T.the_type T'.the_laws 𝓛).typed no_lot _ zeros_is).0) $
+        returns ! (look ! 20 refl) $ forget ! 20 refl $ forget ! 18 refl $ forget ! 16 refl $ forget ! 14 refl $ forget ! 12 refl $ forget ! 10 refl $ move ! (20 ∷ 21 ∷ []) $ free1 ! $ move ! (18 ∷ 19 ∷ []) $ free1 ! $ move ! (16 ∷ 17 ∷ []) $ free1 ! $ move ! (14 ∷ 15 ∷ []) $ free1 ! $ move ! (12 ∷ 13 ∷ []) $ free1 ! $ move ! (10 ∷ 11 ∷ []) $ free1 ! $ move ! (8 ∷ 9 ∷ []) $ free1 ! $ move ! (6 ∷ 7 ∷ []) $ free1 ! $ move ! (4 ∷ 5 ∷ []) $ free1 ! $ move ! (2 ∷ 3 ∷ []) $ free1 ! $ free0 ! $ by ! (exits no_lot (sym (get_or-eq_default ys no_lot (nltb→le i (length ys) z))) zeros_is gi))))))))))))
 
 module _ {M : Type 1} {𝓤 : Ura M} (𝓛 : Logic 𝓤) (mem : Memory → SProp 𝓤) (run : Routine → Fun 𝓤) where
   open 𝓛 use {H}

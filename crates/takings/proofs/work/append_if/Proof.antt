@@ -41,7 +41,7 @@ use Rattle.rules.specs.contracts.rows.Lot as T
 use Rattle.rules.proofs.rows.Lot.TheLaws as T'
 use Rattle.takings.specs.Working.{appended}
 use Rattle.takings.proofs.Locals.{local, part, slice_at}
-use Rattle.takings.proofs.Values.{R, machOf, at-list, sv, places}
+use Rattle.takings.proofs.Values.{R, mach_of, at_list, sv, places}
 use Rattle.takings.proofs.LotCalls.{Append, appends}
 use Rattle.takings.proofs.rows.append.Symbol as append-def
 use Rattle.takings.proofs.rows.append.Symbol.{name as #append}
@@ -74,17 +74,17 @@ module _ {M : Type 1} {𝓤 : Ura M} (𝓛 : Logic 𝓤) (mem : Memory → SProp
   len = length ys
 
   abbrev a : Arg
-  a = (really, (at-list b o γ ys, (i, (lot, tt))))
+  a = (really, (at_list b o γ ys, (i, (lot, tt))))
 
   abbrev at : List Val × (List Val × (List Val × (List Val × Unit {0})))
-  at = (vbool really ∷ [], (sv b o len ∷ [], (vint w64 i ∷ [], (machOf lot ∷ [], tt))))
+  at = (vbool really ∷ [], (sv b o len ∷ [], (vint w64 i ∷ [], (mach_of lot ∷ [], tt))))
 
   abbrev Post : Val → SProp 𝓤
   Post = (walk_of 𝓛 f.ended stayed (f.clauses 𝓛 mem run)).post (((κ, tt), (q, tt), tt, a, at), tt)
 
-  exits : (zs : List Lot) → zs ≡ cond really (appended i (lot ∷ []) ys) ys → length zs ≡ len → i < 2 ^ 64 → Is R lot (machOf lot ∷ []) → ent 𝓤 (⋆ 𝓛 (‵ ((MutSlice (named 0) κ R).own_val (at-list b o γ zs) (sv b o len ∷ [])) ∷ ‵ (flft κ q) ∷ [])) (Post vunit)
+  exits : (zs : List Lot) → zs ≡ cond really (appended i (lot ∷ []) ys) ys → length zs ≡ len → i < 2 ^ 64 → Is R lot (mach_of lot ∷ []) → ent 𝓤 (⋆ 𝓛 (‵ ((MutSlice (named 0) κ R).own_val (at_list b o γ zs) (sv b o len ∷ [])) ∷ ‵ (flft κ q) ∷ [])) (Post vunit)
   exits zs e same gi gv =
-      qed 𝓛 (‵ ((MutSlice (named 0) κ R).own_val (at-list b o γ zs) (sv b o len ∷ [])) ∷ ‵ (flft κ q) ∷ []) ∵
+      qed 𝓛 (‵ ((MutSlice (named 0) κ R).own_val (at_list b o γ zs) (sv b o len ∷ [])) ∷ ‵ (flft κ q) ∷ []) ∵
       suffices ! _ (ends_at 𝓛 f.ended stayed (f.clauses 𝓛 mem run) (((κ, tt), (q, tt), tt, a, at), tt) vunit tt (tt, (zs, (tt, (tt, tt)))) (tt, (same, (tt, (tt, tt))))) $ says ! e $
       nothing ! $ move ! (2 ∷ 0 ∷ []) $ join ! $ frame ! $
       nothing ! $ owned ! R (Is R) ((LL.makes T.the_type T'.the_plain) 𝓛) lot _ gv $ fjoin ! $ owned ! usize (Is usize) (uint_Makes 𝓛 w64) i _ (refl, gi) $ fjoin ! $ move ! (1 ∷ 0 ∷ []) $ fjoin ! $
@@ -92,11 +92,11 @@ module _ {M : Type 1} {𝓤 : Ura M} (𝓛 : Logic 𝓤) (mem : Memory → SProp
       feq_i ! (List Val) (vunit ∷ []) (vunit ∷ []) refl $ move ! (1 ∷ 0 ∷ []) $ done !
 
   module _ (𝓣 : Tables 𝓤 H) (known-append : Triple 𝓤 (𝓣.C #append) (Append 𝓛 mem run)) where
-    walk : Room R len → i < 2 ^ 64 → Is R lot (machOf lot ∷ []) → ent 𝓤 (on_entry 𝓛 f.signature (κ, tt) (q, tt) a at) (WpFn 𝓤 H 𝓣.C 𝓣.Λ code.function (vbool really ∷ sv b o len ∷ vint w64 i ∷ machOf lot ∷ []) Post)
+    walk : Room R len → i < 2 ^ 64 → Is R lot (mach_of lot ∷ []) → ent 𝓤 (on_entry 𝓛 f.signature (κ, tt) (q, tt) a at) (WpFn 𝓤 H 𝓣.C 𝓣.Λ code.function (vbool really ∷ sv b o len ∷ vint w64 i ∷ mach_of lot ∷ []) Post)
     walk room gi gv =
         qed 𝓛 ((‵ (flft κ q) ⊛ ‵ ftrue) ∷ ‵ (owns (bool ∷ MutSlice (named 0) κ R ∷ usize ∷ R ∷ []) a at) ∷ []) ∵
         split ! $ move ! (2 ∷ []) $ fsplit ! $ move ! (1 ∷ []) $ fsplit ! $ keep ! (0 ∷ 3 ∷ []) $
-        enter ! 𝓣.C 𝓣.Λ code.function (vbool really ∷ sv b o len ∷ vint w64 i ∷ machOf lot ∷ []) _ $
+        enter ! 𝓣.C 𝓣.Λ code.function (vbool really ∷ sv b o len ∷ vint w64 i ∷ mach_of lot ∷ []) _ $
         alloc1 ! (λ l₀. alloc1 ! (λ l₁. alloc1 ! (λ l₂. alloc1 ! (λ l₃. alloc1 ! (λ l₄. alloc1 ! (λ l₅. alloc1 ! (λ l₆. alloc1 ! (λ l₇. alloc1 ! (λ l₈. alloc0 ! $
         move ! (18 ∷ 19 ∷ []) $ params1 ! $
         pass1 ! (init ! 16 refl (tt, tt)) $ pass1 ! (init ! 14 refl (tt, (tt, (record { fits = room.0 }, tt)))) $ pass1 ! (init ! 12 refl (tt, record { fits = gi })) $

@@ -38,16 +38,16 @@ use denote.Triple.Statement.{Triple}
 use denote.Triple.Table.{entered, cited}
 use denote.Triple.Walked.{says, needs, Stays, stay_slice, stay_none, walk_of, Walks, ends_at, walked, Goes-slice, Goes-none, walk_Meets}
 use Rattle.rules.specs.declared.rows.Lot.{Lot}
-use Rattle.rules.specs.Lots.{noLot}
+use Rattle.rules.specs.Lots.{no_lot}
 use Rattle.rules.specs.contracts.rows.Lot as T
 use Rattle.rules.proofs.rows.Lot.TheLaws as T'
 use Rattle.takings.specs.Working.{CanClose, ClosesUp}
-use Rattle.takings.proofs.Passing.{Closing, closing-first, closing-on, closing-last}
+use Rattle.takings.proofs.Passing.{Closing, closing-first, closing_on, closing-last}
 use Rattle.takings.proofs.Loop.{tests, below, next_fits, less, less_wf, both_hold}
 use Rattle.takings.proofs.Locals.{local, part, slice_at}
-use Rattle.takings.proofs.Values.{R, at-list, sv, word, refmut, refm, refi, places, cell, spare}
+use Rattle.takings.proofs.Values.{R, at_list, sv, word, refmut, refm, refi, places, cell, spare}
 use Rattle.takings.proofs.Appending.{append-set}
-use Rattle.takings.proofs.LotCalls.{Append, appends, LotAt, gets-lot}
+use Rattle.takings.proofs.LotCalls.{Append, appends, LotAt, gets_lot}
 use Rattle.takings.proofs.rows.append.Symbol as append-def
 use Rattle.takings.proofs.rows.append.Symbol.{name as #append}
 use Rattle.takings.proofs.rows.append.Met as append-thm
@@ -75,8 +75,8 @@ record St (dest from used : ℕ) (ys : List Lot) : Type 0 where
   far : Closing dest from used ys k i ws
 
 module _ {dest from used : ℕ} {ys : List Lot} (can : CanClose dest from used ys) where
-  abbrev next : (t : St dest from used ys) → t.i < used → (l : Lot) → l ≡ get_or t.ws t.i noLot → (ws' : List Lot) → length ws' ≡ length t.ws → ws' ≡ set t.ws t.k l → St dest from used ys
-  next t more l e ws' same w = record { k = t.k + 1; i = t.i + 1; ws = ws'; lenw = same ∙ t.lenw; far = closing-on dest from used ys can t.k t.i t.ws t.far t.lenw more l e ws' w }
+  abbrev next : (t : St dest from used ys) → t.i < used → (l : Lot) → l ≡ get_or t.ws t.i no_lot → (ws' : List Lot) → length ws' ≡ length t.ws → ws' ≡ set t.ws t.k l → St dest from used ys
+  next t more l e ws' same w = record { k = t.k + 1; i = t.i + 1; ws = ws'; lenw = same ∙ t.lenw; far = closing_on dest from used ys can t.k t.i t.ws t.far t.lenw more l e ws' w }
 
   abbrev start : St dest from used ys
   start = record { k = dest; i = from; ws = ys; lenw = refl; far = closing-first dest from used ys can }
@@ -103,7 +103,7 @@ module _ {M : Type 1} {𝓤 : Ura M} (𝓛 : Logic 𝓤) (mem : Memory → SProp
   nwork = length works
 
   abbrev a : Arg
-  a = (at-list bwork owork γwork works, (dest, (from', (used, tt))))
+  a = (at_list bwork owork γwork works, (dest, (from', (used, tt))))
 
   abbrev at : List Val × (List Val × (List Val × (List Val × Unit {0})))
   at = (sv bwork owork nwork ∷ [], (vint w64 dest ∷ [], (vint w64 from' ∷ [], (vint w64 used ∷ [], tt))))
@@ -111,9 +111,9 @@ module _ {M : Type 1} {𝓤 : Ura M} (𝓛 : Logic 𝓤) (mem : Memory → SProp
   abbrev Post : Val → SProp 𝓤
   Post = (walk_of 𝓛 f.ended stayed (f.clauses 𝓛 mem run)).post (((κwork, tt), (qwork, tt), tt, a, at), tt)
 
-  exits : dest < 2 ^ 64 → from' < 2 ^ 64 → used < 2 ^ 64 → (workw : List Lot) → length workw ≡ nwork → ClosesUp dest from' used works workw → ent 𝓤 (⋆ 𝓛 (‵ ((MutSlice (named 0) κwork R).own_val (at-list bwork owork γwork workw) (sv bwork owork nwork ∷ [])) ∷ ‵ (flft κwork qwork) ∷ [])) (Post vunit)
+  exits : dest < 2 ^ 64 → from' < 2 ^ 64 → used < 2 ^ 64 → (workw : List Lot) → length workw ≡ nwork → ClosesUp dest from' used works workw → ent 𝓤 (⋆ 𝓛 (‵ ((MutSlice (named 0) κwork R).own_val (at_list bwork owork γwork workw) (sv bwork owork nwork ∷ [])) ∷ ‵ (flft κwork qwork) ∷ [])) (Post vunit)
   exits isdest isfrom isused workw lenwork e =
-      qed 𝓛 (‵ ((MutSlice (named 0) κwork R).own_val (at-list bwork owork γwork workw) (sv bwork owork nwork ∷ [])) ∷ ‵ (flft κwork qwork) ∷ []) ∵
+      qed 𝓛 (‵ ((MutSlice (named 0) κwork R).own_val (at_list bwork owork γwork workw) (sv bwork owork nwork ∷ [])) ∷ ‵ (flft κwork qwork) ∷ []) ∵
       suffices ! _ (ends_at 𝓛 f.ended stayed (f.clauses 𝓛 mem run) (((κwork, tt), (qwork, tt), tt, a, at), tt) vunit tt (workw, (tt, (tt, (tt, tt)))) (lenwork, (tt, (tt, (tt, tt))))) $ says ! e $
       nothing ! $ move ! (2 ∷ 0 ∷ []) $ join ! $ frame ! $ nothing ! $ owned ! usize (Is usize) (uint_Makes 𝓛 w64) used _ (refl, isused) $ fjoin ! $
       owned ! usize (Is usize) (uint_Makes 𝓛 w64) from' _ (refl, isfrom) $ fjoin ! $ owned ! usize (Is usize) (uint_Makes 𝓛 w64) dest _ (refl, isdest) $ fjoin ! $
@@ -123,7 +123,7 @@ module _ {M : Type 1} {𝓤 : Ura M} (𝓛 : Logic 𝓤) (mem : Memory → SProp
     -- the whole context at the loop's head
     abbrev I : ℕ → ℕ → ℕ → ℕ → ℕ → ℕ → ℕ → ℕ → ℕ → ℕ → ℕ → ℕ → ℕ → ℕ → ℕ → ℕ → St dest from' used works → List (Item 𝓤)
     I l₀ l₁ l₂ l₃ l₄ l₅ l₆ l₇ l₈ l₉ l₁₀ l₁₁ l₁₂ l₁₃ l₁₄ l₁₅ t =
-        ‵ ((MutSlice (named 0) κwork R).own_val (at-list bwork owork γwork t.ws) (sv bwork owork nwork ∷ [])) ∷ ‵ (flft κwork qwork) ∷ (spare (slice_ty refm) l₁₅ (spare refm l₁₄ (spare ty_unit l₁₃ (spare (slice_ty refi) l₁₂ (spare refi l₁₁ (spare ty_bool l₁₀ (spare ty_bool l₉ (spare ty_bool l₈ (spare T'.mir l₇ (cell word l₆ (vint w64 t.i) (cell word l₅ (vint w64 t.k) (cell word l₄ (vint w64 used) (cell word l₃ (vint w64 from') (cell word l₂ (vint w64 dest) (cell (slice_ty (refmut 0)) l₁ (sv bwork owork nwork) (spare ty_unit l₀ []))))))))))))))))
+        ‵ ((MutSlice (named 0) κwork R).own_val (at_list bwork owork γwork t.ws) (sv bwork owork nwork ∷ [])) ∷ ‵ (flft κwork qwork) ∷ (spare (slice_ty refm) l₁₅ (spare refm l₁₄ (spare ty_unit l₁₃ (spare (slice_ty refi) l₁₂ (spare refi l₁₁ (spare ty_bool l₁₀ (spare ty_bool l₉ (spare ty_bool l₈ (spare T'.mir l₇ (cell word l₆ (vint w64 t.i) (cell word l₅ (vint w64 t.k) (cell word l₄ (vint w64 used) (cell word l₃ (vint w64 from') (cell word l₂ (vint w64 dest) (cell (slice_ty (refmut 0)) l₁ (sv bwork owork nwork) (spare ty_unit l₀ []))))))))))))))))
 
     walk : Room R nwork → dest < 2 ^ 64 → from' < 2 ^ 64 → used < 2 ^ 64 → CanClose dest from' used works → ent 𝓤 (on_entry 𝓛 f.signature (κwork, tt) (qwork, tt) a at) (WpFn 𝓤 H 𝓣.C 𝓣.Λ code.function (sv bwork owork nwork ∷ vint w64 dest ∷ vint w64 from' ∷ vint w64 used ∷ []) Post)
     unfolding after_turn
@@ -147,7 +147,7 @@ module _ {M : Type 1} {𝓤 : Ura M} (𝓛 : Logic 𝓤) (mem : Memory → SProp
         -- the row is read
         assigns ! (slice_at ! 30 refl refl refl) (from ! (stop !)) (init ! 10 refl (tt, tt)) $
         assigns ! (agg ! (and_then ! (local ! 10 refl) (and_then ! (part ! 30 1 refl refl refl) (no_more !)))) (from ! (stop !)) (init ! 8 refl (tt, (tt, (record { fits = roomwork.0 }, tt)))) $
-        gets-lot ! bwork owork nwork t.ws t.i mem run 𝓣 known-get t.lenw roomwork (below isused more) (λ ν δ. (and_then ! (local ! 8 refl) (and_then ! (local ! 20 refl) (no_more !)))) (λ l e isl.
+        gets_lot ! bwork owork nwork t.ws t.i mem run 𝓣 known-get t.lenw roomwork (below isused more) (λ ν δ. (and_then ! (local ! 8 refl) (and_then ! (local ! 20 refl) (no_more !)))) (λ l e isl.
         land ! (from ! (stop !)) (init ! 18 refl ((LL.lawful T.the_type T'.the_laws 𝓛).typed l _ isl).0) $
         -- and written further up
         assigns ! (slice_at ! 30 refl refl refl) (from ! (stop !)) (init ! 4 refl (tt, tt)) $

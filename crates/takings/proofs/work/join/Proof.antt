@@ -38,15 +38,15 @@ use denote.Triple.Statement.{Triple}
 use denote.Triple.Table.{entered, cited}
 use denote.Triple.Walked.{says, Stays, stay_slice, stay_none_slice, stay_none, walk_of, Walks, ends_at, walked, Goes-slice, Goes-none_slice, Goes-none, walk_Meets}
 use Rattle.rules.specs.declared.rows.Lot.{Lot}
-use Rattle.rules.specs.Lots.{noLot, ofMember}
+use Rattle.rules.specs.Lots.{no_lot, of_member}
 use Rattle.rules.specs.contracts.rows.Lot as T
 use Rattle.rules.proofs.rows.Lot.TheLaws as T'
 use Rattle.takings.specs.Working.{appended}
-use Rattle.takings.proofs.Appending.{appended-none, joined-more, joined_end}
+use Rattle.takings.proofs.Appending.{appended-none, joined_more, joined_end}
 use Rattle.takings.proofs.Loop.{tests, below, next_fits, less, less_wf, both_hold}
 use Rattle.takings.proofs.Locals.{local, part, slice_at}
-use Rattle.takings.proofs.Values.{R, machOf, at-list, sv, word, refmut, refimm, refm, places, cell, spare}
-use Rattle.takings.proofs.LotCalls.{Append, appends, LotRead, reads-lot}
+use Rattle.takings.proofs.Values.{R, mach_of, at_list, sv, word, refmut, refimm, refm, places, cell, spare}
+use Rattle.takings.proofs.LotCalls.{Append, appends, LotRead, reads_lot}
 use Rattle.takings.proofs.rows.append.Symbol as append-def
 use Rattle.takings.proofs.rows.append.Symbol.{name as #append}
 use Rattle.takings.proofs.rows.append.Met as append-thm
@@ -66,8 +66,8 @@ abbrev stayed : Stays (f.ended).signature.params (f.ended).kept
 stayed = (stay_slice (0 ∷ []) tt (plain (λ _. T.the_row)), (stay_none (λ _. usize) yes, (stay_none_slice (1 ∷ []) tt (plain (λ _. T.the_row)) yes, (stay_none (λ _. usize) yes, (stay_none (λ _. u64) yes, tt)))))
 
 -- a lot that is handed to another member is a lot
-owner-is : (m : ℕ) (l : Lot) → m < 2 ^ 64 → Is R l (machOf l ∷ []) → Is R (ofMember m l) (machOf (ofMember m l) ∷ [])
-owner-is m l fits is = LL.owes T.the_type T'.the_laws (ofMember m l) ((refl, fits), (LL.owed T.the_type T'.the_laws l _ is).1)
+owner-is : (m : ℕ) (l : Lot) → m < 2 ^ 64 → Is R l (mach_of l ∷ []) → Is R (of_member m l) (mach_of (of_member m l) ∷ [])
+owner-is m l fits is = LL.owes T.the_type T'.the_laws (of_member m l) ((refl, fits), (LL.owed T.the_type T'.the_laws l _ is).1)
 
 -- ---- the loop's state: the next piece, the row after the last lot, the rows, and the invariant: the pieces so far joined
 record St (m count used : ℕ) (hs ys : List Lot) : Type 0 where
@@ -78,26 +78,26 @@ record St (m count used : ℕ) (hs ys : List Lot) : Type 0 where
   upto : j ≤ count
   there : j ≤ length hs
   behind : end ≡ used + j
-  so_far : ws ≡ appended used (map (ofMember m) (take j hs)) ys
+  so_far : ws ≡ appended used (map (of_member m) (take j hs)) ys
 
 module _ {m count used : ℕ} {hs ys : List Lot} where
   abbrev μ : St m count used hs ys → ℕ
   μ t = count - t.j
 
-  on-so-far : (t : St m count used hs ys) → t.j < length hs → t.end < length ys → (l : Lot) → l ≡ get_or hs t.j noLot → (ws' : List Lot) → ws' ≡ appended t.end (ofMember m l ∷ []) t.ws
-      → ws' ≡ appended used (map (ofMember m) (take (t.j + 1) hs)) ys
+  on-so-far : (t : St m count used hs ys) → t.j < length hs → t.end < length ys → (l : Lot) → l ≡ get_or hs t.j no_lot → (ws' : List Lot) → ws' ≡ appended t.end (of_member m l ∷ []) t.ws
+      → ws' ≡ appended used (map (of_member m) (take (t.j + 1) hs)) ys
   on-so-far t here room l e ws' k =
       k
-      ∙ ap₂ (λ (n : ℕ) (ws : List Lot). appended n (ofMember m l ∷ []) ws) t.behind t.so_far
-      ∙ joined-more m used hs ys t.j here (omega (arith, room, t.behind)) l e
+      ∙ ap₂ (λ (n : ℕ) (ws : List Lot). appended n (of_member m l ∷ []) ws) t.behind t.so_far
+      ∙ joined_more m used hs ys t.j here (omega (arith, room, t.behind)) l e
 
-  abbrev next : (t : St m count used hs ys) → t.j < count → t.j < length hs → t.end < length ys → (l : Lot) → l ≡ get_or hs t.j noLot → (ws' : List Lot) → length ws' ≡ length t.ws → ws' ≡ appended t.end (ofMember m l ∷ []) t.ws → St m count used hs ys
+  abbrev next : (t : St m count used hs ys) → t.j < count → t.j < length hs → t.end < length ys → (l : Lot) → l ≡ get_or hs t.j no_lot → (ws' : List Lot) → length ws' ≡ length t.ws → ws' ≡ appended t.end (of_member m l ∷ []) t.ws → St m count used hs ys
   next t more here room l e ws' samew k = record { j = t.j + 1; end = t.end + 1; ws = ws'; lenw = samew ∙ t.lenw; upto = omega arith; there = omega arith; behind = omega (arith, t.behind); so_far = on-so-far t here room l e ws' k }
 
   falls : (t : St m count used hs ys) → t.j < count → count - (t.j + 1) < count - t.j
   falls t l = omega arith
 
-  ended_at : (t : St m count used hs ys) → Holds (not (ltb t.j count && ltb t.j (length hs) && ltb t.end (length ys))) → t.ws ≡ appended used (map (ofMember m) (take count hs)) ys
+  ended_at : (t : St m count used hs ys) → Holds (not (ltb t.j count && ltb t.j (length hs) && ltb t.end (length ys))) → t.ws ≡ appended used (map (of_member m) (take count hs)) ys
   ended_at t over = t.so_far ∙ joined_end m used hs ys count t.j t.upto t.there (rw t.behind at over)
 
 abbrev start : {m count used : ℕ} {hs ys : List Lot} → St m count used hs ys
@@ -113,7 +113,7 @@ module _ {M : Type 1} {𝓤 : Ura M} (𝓛 : Logic 𝓤) (mem : Memory → SProp
   nheld = length helds
 
   abbrev a : Arg
-  a = (at-list bwork owork γwork works, (used, (at-list bheld oheld γheld helds, (count, (member, tt)))))
+  a = (at_list bwork owork γwork works, (used, (at_list bheld oheld γheld helds, (count, (member, tt)))))
 
   abbrev at : List Val × (List Val × (List Val × (List Val × (List Val × Unit {0}))))
   at = (sv bwork owork nwork ∷ [], (vint w64 used ∷ [], (sv bheld oheld nheld ∷ [], (vint w64 count ∷ [], (vint w64 member ∷ [], tt)))))
@@ -121,9 +121,9 @@ module _ {M : Type 1} {𝓤 : Ura M} (𝓛 : Logic 𝓤) (mem : Memory → SProp
   abbrev Post : Val → SProp 𝓤
   Post = (walk_of 𝓛 f.ended stayed (f.clauses 𝓛 mem run)).post (((κwork, (κheld, tt)), (qwork, (qheld, tt)), tt, a, at), tt)
 
-  exits : used < 2 ^ 64 → count < 2 ^ 64 → member < 2 ^ 64 → (workw : List Lot) → length workw ≡ nwork → workw ≡ appended used (map (ofMember member) (take count helds)) works → ent 𝓤 (⋆ 𝓛 (‵ ((MutSlice (named 0) κwork R).own_val (at-list bwork owork γwork workw) (sv bwork owork nwork ∷ [])) ∷ ‵ (flft κwork qwork) ∷ ‵ ((ShrSlice (named 0) κheld R).own_val (at-list bheld oheld γheld helds) (sv bheld oheld nheld ∷ [])) ∷ ‵ (flft κheld qheld) ∷ [])) (Post vunit)
+  exits : used < 2 ^ 64 → count < 2 ^ 64 → member < 2 ^ 64 → (workw : List Lot) → length workw ≡ nwork → workw ≡ appended used (map (of_member member) (take count helds)) works → ent 𝓤 (⋆ 𝓛 (‵ ((MutSlice (named 0) κwork R).own_val (at_list bwork owork γwork workw) (sv bwork owork nwork ∷ [])) ∷ ‵ (flft κwork qwork) ∷ ‵ ((ShrSlice (named 0) κheld R).own_val (at_list bheld oheld γheld helds) (sv bheld oheld nheld ∷ [])) ∷ ‵ (flft κheld qheld) ∷ [])) (Post vunit)
   exits isused iscount ismember workw lenwork e =
-      qed 𝓛 (‵ ((MutSlice (named 0) κwork R).own_val (at-list bwork owork γwork workw) (sv bwork owork nwork ∷ [])) ∷ ‵ (flft κwork qwork) ∷ ‵ ((ShrSlice (named 0) κheld R).own_val (at-list bheld oheld γheld helds) (sv bheld oheld nheld ∷ [])) ∷ ‵ (flft κheld qheld) ∷ []) ∵
+      qed 𝓛 (‵ ((MutSlice (named 0) κwork R).own_val (at_list bwork owork γwork workw) (sv bwork owork nwork ∷ [])) ∷ ‵ (flft κwork qwork) ∷ ‵ ((ShrSlice (named 0) κheld R).own_val (at_list bheld oheld γheld helds) (sv bheld oheld nheld ∷ [])) ∷ ‵ (flft κheld qheld) ∷ []) ∵
       suffices ! _ (ends_at 𝓛 f.ended stayed (f.clauses 𝓛 mem run) (((κwork, (κheld, tt)), (qwork, (qheld, tt)), tt, a, at), tt) vunit tt (workw, (tt, (tt, (tt, (tt, tt))))) (lenwork, (tt, (tt, (tt, (tt, tt)))))) $ says ! e $
       nothing ! $ move ! (4 ∷ 0 ∷ []) $ join ! $ move ! (2 ∷ 0 ∷ []) $ join ! $ frame ! $ nothing ! $ owned ! u64 (Is u64) (uint_Makes 𝓛 w64) member _ (refl, ismember) $ fjoin ! $
       owned ! usize (Is usize) (uint_Makes 𝓛 w64) count _ (refl, iscount) $ fjoin ! $ move ! (2 ∷ 0 ∷ []) $ fjoin ! $
@@ -134,7 +134,7 @@ module _ {M : Type 1} {𝓤 : Ura M} (𝓛 : Logic 𝓤) (mem : Memory → SProp
     -- the whole context at the loop's head
     abbrev I : ℕ → ℕ → ℕ → ℕ → ℕ → ℕ → ℕ → ℕ → ℕ → ℕ → ℕ → ℕ → ℕ → ℕ → ℕ → ℕ → ℕ → ℕ → ℕ → St member count used helds works → List (Item 𝓤)
     I l₀ l₁ l₂ l₃ l₄ l₅ l₆ l₇ l₈ l₉ l₁₀ l₁₁ l₁₂ l₁₃ l₁₄ l₁₅ l₁₆ l₁₇ l₁₈ t =
-        ‵ ((MutSlice (named 0) κwork R).own_val (at-list bwork owork γwork t.ws) (sv bwork owork nwork ∷ [])) ∷ ‵ (flft κwork qwork) ∷ ‵ ((ShrSlice (named 0) κheld R).own_val (at-list bheld oheld γheld helds) (sv bheld oheld nheld ∷ [])) ∷ ‵ (flft κheld qheld) ∷ (spare (slice_ty refm) l₁₈ (spare refm l₁₇ (spare ty_unit l₁₆ (spare ty_bool l₁₅ (spare ty_bool l₁₄ (spare word l₁₃ (spare ty_bool l₁₂ (spare ty_bool l₁₁ (spare word l₁₀ (spare ty_bool l₉ (spare T'.mir l₈ (cell word l₇ (vint w64 t.j) (cell word l₆ (vint w64 t.end) (cell word l₅ (vint w64 member) (cell word l₄ (vint w64 count) (cell (slice_ty (refimm 1)) l₃ (sv bheld oheld nheld) (cell word l₂ (vint w64 used) (cell (slice_ty (refmut 0)) l₁ (sv bwork owork nwork) (spare ty_unit l₀ [])))))))))))))))))))
+        ‵ ((MutSlice (named 0) κwork R).own_val (at_list bwork owork γwork t.ws) (sv bwork owork nwork ∷ [])) ∷ ‵ (flft κwork qwork) ∷ ‵ ((ShrSlice (named 0) κheld R).own_val (at_list bheld oheld γheld helds) (sv bheld oheld nheld ∷ [])) ∷ ‵ (flft κheld qheld) ∷ (spare (slice_ty refm) l₁₈ (spare refm l₁₇ (spare ty_unit l₁₆ (spare ty_bool l₁₅ (spare ty_bool l₁₄ (spare word l₁₃ (spare ty_bool l₁₂ (spare ty_bool l₁₁ (spare word l₁₀ (spare ty_bool l₉ (spare T'.mir l₈ (cell word l₇ (vint w64 t.j) (cell word l₆ (vint w64 t.end) (cell word l₅ (vint w64 member) (cell word l₄ (vint w64 count) (cell (slice_ty (refimm 1)) l₃ (sv bheld oheld nheld) (cell word l₂ (vint w64 used) (cell (slice_ty (refmut 0)) l₁ (sv bwork owork nwork) (spare ty_unit l₀ [])))))))))))))))))))
 
     walk : Room R nwork → used < 2 ^ 64 → Room R nheld → count < 2 ^ 64 → member < 2 ^ 64 → ent 𝓤 (on_entry 𝓛 f.signature (κwork, (κheld, tt)) (qwork, (qheld, tt)) a at) (WpFn 𝓤 H 𝓣.C 𝓣.Λ code.function (sv bwork owork nwork ∷ vint w64 used ∷ sv bheld oheld nheld ∷ vint w64 count ∷ vint w64 member ∷ []) Post)
     unfolding after_turn
@@ -162,7 +162,7 @@ module _ {M : Type 1} {𝓤 : Ura M} (𝓛 : Logic 𝓤) (mem : Memory → SProp
         let more : t.j < count = ltb→lt t.j count asked in let here : t.j < nheld = ltb→lt t.j nheld held in let room : t.end < nwork = ltb→lt t.end nwork free in
         let fits : t.j < 2 ^ 64 = below iscount more in let end_fits : t.end < 2 ^ 64 = below roomwork.0 room in
         -- a piece is read
-        move ! (2 ∷ 3 ∷ []) $ reads-lot ! bheld oheld nheld helds t.j mem run 𝓣 known-get fits (and_then ! (local ! 34 refl) (and_then ! (local ! 26 refl) (no_more !))) (λ l e isl.
+        move ! (2 ∷ 3 ∷ []) $ reads_lot ! bheld oheld nheld helds t.j mem run 𝓣 known-get fits (and_then ! (local ! 34 refl) (and_then ! (local ! 26 refl) (no_more !))) (λ l e isl.
         land ! (from ! (stop !)) (init ! 24 refl ((LL.lawful T.the_type T'.the_laws 𝓛).typed l _ isl).0) $
         let owned-is = owner-is member l ismember isl in
         -- it gets its new owner
@@ -171,7 +171,7 @@ module _ {M : Type 1} {𝓤 : Ura M} (𝓛 : Logic 𝓤) (mem : Memory → SProp
         assigns ! (slice_at ! 38 refl refl refl) (from ! (stop !)) (init ! 6 refl (tt, tt)) $
         assigns ! (agg ! (and_then ! (local ! 6 refl) (and_then ! (part ! 38 1 refl refl refl) (no_more !)))) (from ! (stop !)) (init ! 4 refl (tt, (tt, (record { fits = roomwork.0 }, tt)))) $
         move ! (2 ∷ 3 ∷ []) $
-        appends ! bwork owork nwork t.ws t.end (ofMember member l) mem run 𝓣 known-append t.lenw roomwork end_fits owned-is (λ ν δ. (and_then ! (local ! 4 refl) (and_then ! (local ! 28 refl) (and_then ! (local ! 24 refl) (no_more !))))) (λ ws' samew k.
+        appends ! bwork owork nwork t.ws t.end (of_member member l) mem run 𝓣 known-append t.lenw roomwork end_fits owned-is (λ ν δ. (and_then ! (local ! 4 refl) (and_then ! (local ! 28 refl) (and_then ! (local ! 24 refl) (no_more !))))) (λ ws' samew k.
         land ! (from ! (stop !)) (init ! 8 refl (tt, tt)) $
         assigns ! (bin ! (local ! 28 refl) (lit ! tt) (record { fits = next_fits roomwork.0 room })) (from ! (stop !)) (store ! 28 refl (tt, record { fits = next_fits roomwork.0 room })) $
         assigns_last ! (bin ! (local ! 26 refl) (lit ! tt) (record { fits = next_fits iscount more })) (from ! (stop !)) (store ! 26 refl (tt, record { fits = next_fits iscount more })) $
