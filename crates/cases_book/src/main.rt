@@ -1,5 +1,7 @@
 // The book runner on stored input: each file that an argument names is a session of its own, from an empty
 // book. Arguments, files and what is to be written are made by tests/cases/book.py.
+#![tactic(auto)]
+
 fn main() {
     let count = os::arg_count();
     let mut i: usize = 1;

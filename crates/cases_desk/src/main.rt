@@ -2,6 +2,8 @@
 // number, the call's, the reply number, a digest of every number of the desk and the tables
 // afterwards, and what a sign request is then answered. Books, calls and the expected lines are made
 // by tests/cases/desk.py from the reference.
+#![tactic(auto)]
+
 mod data;
 
 ghost use Rattle.std.specs.Prelude.{◌≤◌, ◌<◌, length};
@@ -56,7 +58,7 @@ fn with_tables(book: u64, call: usize, inbox: &mut [u64], outbox: &mut [u64], hi
     report(book, call, r.number, sum, r.then);
 }
 
-#[derive(Drop)]
+#[derive(Clone, Copy)]
 struct Replies {
     number: u64,
     then: u64,

@@ -2,6 +2,8 @@
 // then reply and number of four questions for a provenance, then for four nonces the trace's reply,
 // its piece count, and a digest of each lent table afterwards. Cases and the expected lines are made
 // by tests/cases/history.py from the reference.
+#![tactic(auto)]
+
 mod data;
 
 ghost use Rattle.std.specs.Prelude.{◌≤◌, ◌<◌};
@@ -219,7 +221,7 @@ fn trace(d: Desk, history: &[u64], work_rows: u64, piece_rows: u64, n: u64) {
 }
 
 // What a trace gives, with a digest of each lent table afterwards.
-#[derive(Drop)]
+#[derive(Clone, Copy)]
 pub struct Seen {
     pub answer: Answer,
     pub work: u64,

@@ -18,50 +18,50 @@ use Rattle.desk.specs.contracts.fields.of_eight as of-eight
 use Rattle.desk.specs.contracts.keep.set_balance as set-balance
 use Rattle.desk.specs.contracts.keep.set_of_eight as set-of-eight
 
-pub refuse_once : Coincide refuse.ended (λ M 𝓤. refuse.clauses 𝓤)
+pub refuse_once : Coincide refuse.ended (λ M 𝓤 𝓛. refuse.clauses 𝓛)
 refuse_once w x g = value w
 
-pub is_done_once : Coincide is-done.ended (λ M 𝓤. is-done.clauses 𝓤)
+pub is_done_once : Coincide is-done.ended (λ M 𝓤 𝓛. is-done.clauses 𝓛)
 is_done_once w x g = value w
 
-pub claim_record_once : Coincide claim-record.ended (λ M 𝓤. claim-record.clauses 𝓤)
+pub claim_record_once : Coincide claim-record.ended (λ M 𝓤 𝓛. claim-record.clauses 𝓛)
 claim_record_once w x g = value w
 
-pub transfer_record_once : Coincide transfer-record.ended (λ M 𝓤. transfer-record.clauses 𝓤)
+pub transfer_record_once : Coincide transfer-record.ended (λ M 𝓤 𝓛. transfer-record.clauses 𝓛)
 transfer_record_once w x g = value w
 
-pub withdrawal_record_once : Coincide withdrawal-record.ended (λ M 𝓤. withdrawal-record.clauses 𝓤)
+pub withdrawal_record_once : Coincide withdrawal-record.ended (λ M 𝓤 𝓛. withdrawal-record.clauses 𝓛)
 withdrawal_record_once w x g = value w
 
-pub grant_record_once : Coincide grant-record.ended (λ M 𝓤. grant-record.clauses 𝓤)
+pub grant_record_once : Coincide grant-record.ended (λ M 𝓤 𝓛. grant-record.clauses 𝓛)
 grant_record_once w x g = value w
 
-pub is_within_once : Coincide is_within.ended (λ M 𝓤. is_within.clauses 𝓤)
+pub is_within_once : Coincide is_within.ended (λ M 𝓤 𝓛. is_within.clauses 𝓛)
 is_within_once w x g = value w
 
-pub is_member_once : Coincide is_member.ended (λ M 𝓤. is_member.clauses 𝓤)
+pub is_member_once : Coincide is_member.ended (λ M 𝓤 𝓛. is_member.clauses 𝓛)
 is_member_once w x g = value w
 
-pub is_asset_once : Coincide is-asset.ended (λ M 𝓤. is-asset.clauses 𝓤)
+pub is_asset_once : Coincide is-asset.ended (λ M 𝓤 𝓛. is-asset.clauses 𝓛)
 is_asset_once w x g = value w
 
-pub is_domain_once : Coincide is-domain.ended (λ M 𝓤. is-domain.clauses 𝓤)
+pub is_domain_once : Coincide is-domain.ended (λ M 𝓤 𝓛. is-domain.clauses 𝓛)
 is_domain_once w x g = value w
 
-pub is_amount_once : Coincide is-amount.ended (λ M 𝓤. is-amount.clauses 𝓤)
+pub is_amount_once : Coincide is-amount.ended (λ M 𝓤 𝓛. is-amount.clauses 𝓛)
 is_amount_once w x g = value w
 
-pub is_payee_once : Coincide is-payee.ended (λ M 𝓤. is-payee.clauses 𝓤)
+pub is_payee_once : Coincide is-payee.ended (λ M 𝓤 𝓛. is-payee.clauses 𝓛)
 is_payee_once w x g = value w
 
-pub balance_of_once : Coincide balance-of.ended (λ M 𝓤. balance-of.clauses 𝓤)
+pub balance_of_once : Coincide balance-of.ended (λ M 𝓤 𝓛. balance-of.clauses 𝓛)
 balance_of_once w x g = value w
 
-pub of_eight_once : Coincide of-eight.ended (λ M 𝓤. of-eight.clauses 𝓤)
+pub of_eight_once : Coincide of-eight.ended (λ M 𝓤 𝓛. of-eight.clauses 𝓛)
 of_eight_once w x g = value w
 
-pub set_balance_once : Coincide set-balance.ended (λ M 𝓤. set-balance.clauses 𝓤)
+pub set_balance_once : Coincide set-balance.ended (λ M 𝓤 𝓛. set-balance.clauses 𝓛)
 set_balance_once w x g = first w
 
-pub set_of_eight_once : Coincide set-of-eight.ended (λ M 𝓤. set-of-eight.clauses 𝓤)
+pub set_of_eight_once : Coincide set-of-eight.ended (λ M 𝓤 𝓛. set-of-eight.clauses 𝓛)
 set_of_eight_once w x g = first w

@@ -1,18 +1,20 @@
 // The field reader. Fields are parted by one tab; each is a number, or it is told by its own number that it is none.
+#![tactic(auto)]
+
 ghost use Rattle.std.specs.Prelude.{◌≡◌, drop};
 ghost use Rattle.rules.specs.Lines.{field_end, after_field, leading_zero};
 ghost use Rattle.fields.specs.Reading.{one_more, is_shaped, digits_read, next_read};
 
 // What the field reader answers: the field's number and where the part after the field begins, or which field it
 // is that does not read.
-#[derive(Drop)]
+#[derive(Clone, Copy)]
 pub enum ReadField {
     Number(u64, usize),
     FailsAt(u64),
 }
 
 // What a value grows to with one digit more: a value that a field can hold, or none.
-#[derive(Drop)]
+#[derive(Clone, Copy)]
 enum Grown {
     To(u64),
     NoNumber,

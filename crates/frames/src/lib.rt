@@ -1,4 +1,6 @@
 // The frame test, every clause of document 01 but the history's, on any desk and any three tables.
+#![tactic(auto)]
+
 ghost use Rattle.std.specs.Prelude.{◌≡◌, ◌&&◌, leb, ltb, eqb};
 ghost use Rattle.rules.specs.Limits.{within, is_member, is_asset, is_amount, is_payee};
 ghost use Rattle.rules.specs.Lists.{all};

@@ -14,7 +14,7 @@ use Rattle.history.specs.contracts.refusals.history_reply as history-reply
 use Rattle.history.specs.contracts.trace.trace as trace
 
 -- the table of refusals is said of every state that has these records
-pub history_reply_once : Coincide history-reply.ended (λ M 𝓤. history-reply.clauses 𝓤)
+pub history_reply_once : Coincide history-reply.ended (λ M 𝓤 𝓛. history-reply.clauses 𝓛)
 history_reply_once w x g =
     let s : State = record { balances = []; holders = []; inbox = []; outside = no_outside; history = rows_of record_shape x.args.1.0 x.args.0.now } in
     both w (λ p q. (told_once _ _ (p s refl ∙ sym (q s refl)), refl))
@@ -24,5 +24,5 @@ outcome_once : (y : TraceOutcome) {r r' : Answer} {w w' p p' : List Lot} → tra
 outcome_once y e f =
     (told_once _ _ (ap (λ (x : TraceOutcome). x.reply) (e ∙ sym f)), ap (λ (x : TraceOutcome). x.work) (e ∙ sym f), ap (λ (x : TraceOutcome). x.pieces) (e ∙ sym f))
 
-pub trace_once : Coincide trace.ended (λ M 𝓤. trace.clauses 𝓤)
+pub trace_once : Coincide trace.ended (λ M 𝓤 𝓛. trace.clauses 𝓛)
 trace_once w x g = both w (λ p q. let o = outcome_once _ p q in (o.0, λ j. (tt, (tt, (tt, (tt, (o.1 j, (o.2 j, (tt, tt)))))))))

@@ -1,6 +1,8 @@
 // The inbox: deposit and claim. Each call tests the whole frame, then asks its table of refusals (`.._reply`), and
 // then does what is done where nothing refuses it (`.._done`). Each says in one equation, of all three tables that it
 // is lent, what it answers and what it leaves of the desk and every row.
+#![tactic(auto)]
+
 ghost use Rattle.std.specs.Prelude.{◌≡◌, length};
 ghost use Rattle.rules.specs.declared.calls.Call.{Call};
 ghost use Rattle.rules.specs.Facts.{Accepted};

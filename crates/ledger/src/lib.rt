@@ -2,6 +2,8 @@
 // is handed what it reads, and then what is done where nothing refuses it (`.._done`; a sign does nothing more). Each
 // says in one equation, of all three tables that it is lent, what it answers and what it leaves of the desk and every
 // row.
+#![tactic(auto)]
+
 ghost use Rattle.std.specs.Prelude.{◌≡◌, length};
 ghost use Rattle.rules.specs.declared.calls.Call.{Call};
 ghost use Rattle.ledger.specs.After.{CanTransfer, CanGrant, transferred_desk, granted_desk};

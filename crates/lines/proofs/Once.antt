@@ -7,7 +7,7 @@ use Rattle.rules.proofs.Coincide.{both, value}
 use Rattle.lines.specs.contracts.read.read_line as read-line
 use Rattle.lines.specs.contracts.read.unread_field as unread-field
 
-pub read_line_once : Coincide read-line.ended (λ M 𝓤. read-line.clauses 𝓤)
+pub read_line_once : Coincide read-line.ended (λ M 𝓤 𝓛. read-line.clauses 𝓛)
 read_line_once w x g = value w
 
 -- the field that a Malformed line has
@@ -15,6 +15,6 @@ field_of : Line → ℕ
 field_of (Line.Reads c) = 0
 field_of (Line.Malformed k) = k
 
-pub unread_field_once : Coincide unread-field.ended (λ M 𝓤. unread-field.clauses 𝓤)
+pub unread_field_once : Coincide unread-field.ended (λ M 𝓤 𝓛. unread-field.clauses 𝓛)
 unfolding field_of
 unread_field_once w x g = both w (λ p q. (ap field_of (p ∙ sym q), refl))

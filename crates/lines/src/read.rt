@@ -14,19 +14,19 @@ use rules::limits::{MOST_BYTES, MOST_HELD};
 use rules::rows::{Deposit, DepositNumber, Nonce};
 
 // What reading so many numbers gives: the numbers, in the line's order, or the field that does not read.
-#[derive(Drop)]
+#[derive(Clone, Copy)]
 enum Two {
     Numbers(u64, u64),
     FailsAt(u64),
 }
 
-#[derive(Drop)]
+#[derive(Clone, Copy)]
 enum Three {
     Numbers(u64, u64, u64),
     FailsAt(u64),
 }
 
-#[derive(Drop)]
+#[derive(Clone, Copy)]
 enum Four {
     Numbers(u64, u64, u64, u64),
     FailsAt(u64),

@@ -27,13 +27,13 @@ use Rattle.outbox.specs.contracts.settle_reply as settle-reply
 abbrev some : ℕ → Nonce → List Payment
 some n nonce = replicate n (record { asset = 0; amount = 0; payee = 0; nonce = nonce })
 
-pub withdraw_once : Coincide withdraw.ended (λ M 𝓤. withdraw.clauses 𝓤)
+pub withdraw_once : Coincide withdraw.ended (λ M 𝓤 𝓛. withdraw.clauses 𝓛)
 withdraw_once w x g = both w (λ p q. let o = outcome_once _ p q in (o.0, λ j. (tt, (tt, (o.2 j, (o.3 j, (tt, tt)))))))
 
-pub withdraw_done_once : Coincide withdraw-done.ended (λ M 𝓤. withdraw-done.clauses 𝓤)
+pub withdraw_done_once : Coincide withdraw-done.ended (λ M 𝓤 𝓛. withdraw-done.clauses 𝓛)
 withdraw_done_once = withdraw_once
 
-pub withdraw_reply_once : Coincide withdraw-reply.ended (λ M 𝓤. withdraw-reply.clauses 𝓤)
+pub withdraw_reply_once : Coincide withdraw-reply.ended (λ M 𝓤 𝓛. withdraw-reply.clauses 𝓛)
 withdraw_reply_once w x g =
     let used : ℕ = x.args.1.0 in
     let records : ℕ = x.args.1.1.0 in
@@ -42,28 +42,28 @@ withdraw_reply_once w x g =
     let h : length s.history ≡ records = length-replicate records _ in
     both w (λ p q. (told_once _ _ (p s refl u h ∙ sym (q s refl u h)), refl))
 
-pub send_once : Coincide send.ended (λ M 𝓤. send.clauses 𝓤)
+pub send_once : Coincide send.ended (λ M 𝓤 𝓛. send.clauses 𝓛)
 send_once w x g = both w (λ p q. let o = outcome_once _ p q in (o.0, refl))
 
-pub send_done_once : Coincide send-done.ended (λ M 𝓤. send-done.clauses 𝓤)
+pub send_done_once : Coincide send-done.ended (λ M 𝓤 𝓛. send-done.clauses 𝓛)
 send_done_once = send_once
 
-pub count_waiting_once : Coincide count-waiting.ended (λ M 𝓤. count-waiting.clauses 𝓤)
+pub count_waiting_once : Coincide count-waiting.ended (λ M 𝓤 𝓛. count-waiting.clauses 𝓛)
 count_waiting_once w x g = value w
 
-pub send_reply_once : Coincide send-reply.ended (λ M 𝓤. send-reply.clauses 𝓤)
+pub send_reply_once : Coincide send-reply.ended (λ M 𝓤 𝓛. send-reply.clauses 𝓛)
 send_reply_once w x g =
     let s : State = some_state [] [] [] (some_outside [] (record { 0 = 0 }) [] (some x.args.0 (record { 0 = 0 }))) 0 in
     let n : length s.outside.waiting ≡ x.args.0 = length-replicate x.args.0 _ in
     both w (λ p q. (told_once _ _ (p s n ∙ sym (q s n)), refl))
 
-pub settle_once : Coincide settle.ended (λ M 𝓤. settle.clauses 𝓤)
+pub settle_once : Coincide settle.ended (λ M 𝓤 𝓛. settle.clauses 𝓛)
 settle_once w x g = both w (λ p q. let o = outcome_once _ p q in (o.0, λ j. (tt, (tt, (o.2 j, (tt, (tt, tt)))))))
 
-pub settle_done_once : Coincide settle-done.ended (λ M 𝓤. settle-done.clauses 𝓤)
+pub settle_done_once : Coincide settle-done.ended (λ M 𝓤 𝓛. settle-done.clauses 𝓛)
 settle_done_once = settle_once
 
-pub first_nonce_once : Coincide first-nonce.ended (λ M 𝓤. first-nonce.clauses 𝓤)
+pub first_nonce_once : Coincide first-nonce.ended (λ M 𝓤 𝓛. first-nonce.clauses 𝓛)
 first_nonce_once w x g = value w
 
 -- the oldest of them, where there is one
@@ -71,7 +71,7 @@ oldest_of : (n : ℕ) (due : Nonce) → 1 ≤ n → (oldest (some n due)).nonce 
 oldest_of zero due h = absurd (omega arith)
 oldest_of (suc n) due h = unfold oldest in refl
 
-pub settle_reply_once : Coincide settle-reply.ended (λ M 𝓤. settle-reply.clauses 𝓤)
+pub settle_reply_once : Coincide settle-reply.ended (λ M 𝓤 𝓛. settle-reply.clauses 𝓛)
 settle_reply_once w x g =
     let flying : ℕ = x.args.0 in
     let s : State = some_state [] [] [] (some_outside [] (record { 0 = 0 }) (some flying x.args.1.0) []) 0 in

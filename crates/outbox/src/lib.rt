@@ -1,6 +1,8 @@
 // The outbox: withdraw, send and settle. Each call is the test of the whole frame, its table of refusals (`.._reply`),
 // which is handed what it reads, and then what is done where nothing refuses it (`.._done`). Each says in one equation,
 // of all three tables that it is lent, what it answers and what it leaves of the desk and every row.
+#![tactic(auto)]
+
 ghost use Rattle.std.specs.Prelude.{◌≡◌, ◌-◌, ◌*◌, ◌≤◌, length, get_or};
 ghost use Rattle.rules.specs.declared.calls.Call.{Call};
 ghost use Rattle.rules.specs.Facts.{Accepted};

@@ -22,17 +22,17 @@ page_once y p q = (ap upto (once y p q), ap bytes (once y p q))
 pub written : (w : World) {L : Type 0} {y : Page} {r r' : ℕ} {o o' : List ℕ} {l : L} → Both w (page o r ≡ y) (page o' r' ≡ y) ((r ≡ r') × (◌≡◌ {A = List ℕ × L} (o, l) (o', l)))
 written w {l = l} = both w (λ p q. let e = page_once _ p q in (e.0, λ j. (e.1 j, l)))
 
-pub put_byte_once : Coincide put_byte.ended (λ M 𝓤. put_byte.clauses 𝓤)
+pub put_byte_once : Coincide put_byte.ended (λ M 𝓤 𝓛. put_byte.clauses 𝓛)
 put_byte_once w x g = written w
 
-pub put_bytes_once : Coincide put-bytes.ended (λ M 𝓤. put-bytes.clauses 𝓤)
+pub put_bytes_once : Coincide put-bytes.ended (λ M 𝓤 𝓛. put-bytes.clauses 𝓛)
 put_bytes_once w x g = written w
 
-pub put_decimal_once : Coincide put-decimal.ended (λ M 𝓤. put-decimal.clauses 𝓤)
+pub put_decimal_once : Coincide put-decimal.ended (λ M 𝓤 𝓛. put-decimal.clauses 𝓛)
 put_decimal_once w x g = written w
 
-pub put_value_once : Coincide put-value.ended (λ M 𝓤. put-value.clauses 𝓤)
+pub put_value_once : Coincide put-value.ended (λ M 𝓤 𝓛. put-value.clauses 𝓛)
 put_value_once w x g = written w
 
-pub put_line_feed_once : Coincide put-line-feed.ended (λ M 𝓤. put-line-feed.clauses 𝓤)
+pub put_line_feed_once : Coincide put-line-feed.ended (λ M 𝓤 𝓛. put-line-feed.clauses 𝓛)
 put_line_feed_once w x g = written w

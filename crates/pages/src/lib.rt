@@ -1,6 +1,8 @@
 // A page: writing into a buffer of the caller's from a place on. Each function answers the place after
 // what it wrote. Where the buffer ends, what has no room is left out; a caller that has room for the
 // whole of it finds the whole of it (proofs/PageLaws.antt, `put_whole`).
+#![tactic(auto)]
+
 ghost use Rattle.std.specs.Prelude.{◌+◌, ◌≤◌, ◌≡◌, [], ◌∷◌, length};
 ghost use Rattle.rules.specs.Lines.{line_feed, decimal, tabbed};
 ghost use Rattle.pages.specs.Writing.{page, put, laid};

@@ -1,6 +1,8 @@
 // The loop over the system calls: a file to standard output, from an empty book. What is answered and
 // written is decided in `runner`, proved on slices; here stand the order of reads and writes, and when to
 // stop.
+#![tactic(auto)]
+
 ghost use Rattle.std.specs.Prelude.{◌≡◌, length, true};
 ghost use Rattle.std.specs.Int.Signed.{non_neg};
 ghost use Rattle.rules.specs.Limits.{most_held};
@@ -33,7 +35,7 @@ pub fn run(fd: i32) {
 }
 
 // What a turn leaves: whether there is another, and whether every read and write so far went well.
-#[derive(Drop)]
+#[derive(Clone, Copy)]
 struct Turn {
     feeding: Feeding,
     on: bool,
@@ -41,7 +43,7 @@ struct Turn {
 }
 
 // What the system answered to a read, and the turn that it was.
-#[derive(Drop)]
+#[derive(Clone, Copy)]
 struct Read {
     got: isize,
     turn: Turn,

@@ -1,1 +1,3 @@
 // No code: the demands as statements (specs/), and their proofs (proofs/).
+
+#![tactic(auto)]

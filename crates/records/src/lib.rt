@@ -1,5 +1,7 @@
 // The records of a history: one of them, the test of them all, provenance, and the whole test that provenance
 // and trace begin with. No function here writes a table.
+#![tactic(auto)]
+
 pub mod frame;
 pub mod origin;
 

@@ -1,5 +1,7 @@
 // What a call is refused for: every call's table of refusals, asked before anything is written. The desk's
 // lists are lent, so that a call whose number is all that it comes to copies no desk.
+#![tactic(auto)]
+
 ghost use Rattle.std.specs.Prelude.{◌≡◌};
 ghost use Rattle.rules.specs.Replies.{told, plain};
 ghost use Rattle.rules.specs.Answer.{reply_number, book_of};

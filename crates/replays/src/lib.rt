@@ -1,5 +1,7 @@
 // The replay of a history in lots: one record, the records before a payment, and what the payment then
 // takes, as its pieces.
+#![tactic(auto)]
+
 ghost use Rattle.std.specs.Prelude.{◌≡◌, cond, ◌-◌, length};
 ghost use Rattle.rules.specs.Tables.{rows_of, record_shape};
 ghost use Rattle.lots.specs.Traces.{before_payment};

@@ -10,23 +10,23 @@ use Rattle.replies.specs.contracts.put_answer as put-answer
 use Rattle.replies.specs.contracts.put_reply_line as put-reply-line
 use Rattle.replies.specs.contracts.put_end as put-end
 
-pub reply_number_once : Coincide reply-number.ended (λ M 𝓤. reply-number.clauses 𝓤)
+pub reply_number_once : Coincide reply-number.ended (λ M 𝓤 𝓛. reply-number.clauses 𝓛)
 reply_number_once w x g = value w
 
-pub refusal_number_once : Coincide refusal_number.ended (λ M 𝓤. refusal_number.clauses 𝓤)
+pub refusal_number_once : Coincide refusal_number.ended (λ M 𝓤 𝓛. refusal_number.clauses 𝓛)
 refusal_number_once w x g = value w
 
-pub put_reply_once : Coincide put-reply.ended (λ M 𝓤. put-reply.clauses 𝓤)
+pub put_reply_once : Coincide put-reply.ended (λ M 𝓤 𝓛. put-reply.clauses 𝓛)
 put_reply_once w x g = written w
 
-pub put_piece_once : Coincide put-piece.ended (λ M 𝓤. put-piece.clauses 𝓤)
+pub put_piece_once : Coincide put-piece.ended (λ M 𝓤 𝓛. put-piece.clauses 𝓛)
 put_piece_once w x g = written w
 
-pub put_answer_once : Coincide put-answer.ended (λ M 𝓤. put-answer.clauses 𝓤)
+pub put_answer_once : Coincide put-answer.ended (λ M 𝓤 𝓛. put-answer.clauses 𝓛)
 put_answer_once w x g = written w
 
-pub put_reply_line_once : Coincide put-reply-line.ended (λ M 𝓤. put-reply-line.clauses 𝓤)
+pub put_reply_line_once : Coincide put-reply-line.ended (λ M 𝓤 𝓛. put-reply-line.clauses 𝓛)
 put_reply_line_once w x g = written w
 
-pub put_end_once : Coincide put-end.ended (λ M 𝓤. put-end.clauses 𝓤)
+pub put_end_once : Coincide put-end.ended (λ M 𝓤 𝓛. put-end.clauses 𝓛)
 put_end_once w x g = written w

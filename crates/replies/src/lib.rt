@@ -1,5 +1,7 @@
 // The reply writer: a reply's line and the last line on a page of the caller's, from a place on. Each
 // function answers the place after what it wrote, as those of `pages` do.
+#![tactic(auto)]
+
 ghost use Rattle.std.specs.Prelude.{◌≡◌, [], ◌∷◌, ◌++◌};
 ghost use Rattle.rules.specs.Replies.{told_refusal, number_of, told};
 ghost use Rattle.rules.specs.Lines.{decimal, tabbed};

@@ -4,7 +4,7 @@ use crate::rows::Payment;
 
 // The reasons of document 01's table of reply numbers, in its order, from 1 on. The first has the field that
 // the line tells.
-#[derive(Drop)]
+#[derive(Clone, Copy)]
 pub enum Refusal {
     Malformed(u64),
     BadBook,
@@ -29,7 +29,7 @@ pub enum Refusal {
     NoSuchPayment,
 }
 
-#[derive(Drop)]
+#[derive(Clone, Copy)]
 pub enum Answer {
     Done,
     // A done send: the payment that is now in flight.
@@ -40,21 +40,21 @@ pub enum Answer {
 }
 
 // What the library's question for a provenance gives.
-#[derive(Drop)]
+#[derive(Clone, Copy)]
 pub enum Origin {
     Amount(u64),
     Refused(Refusal),
 }
 
 // What a call gives back: its answer, and the desk as the call leaves it.
-#[derive(Drop)]
+#[derive(Clone, Copy)]
 pub struct Answered {
     pub answer: Answer,
     pub desk: Desk,
 }
 
 // The runner's tally: how many replies were 0, and how many were not.
-#[derive(Drop)]
+#[derive(Clone, Copy)]
 pub struct Tally {
     pub done: u64,
     pub other: u64,

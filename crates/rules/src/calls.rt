@@ -1,7 +1,7 @@
 // The nine calls, each with its own numbers.
 use crate::rows::{Deposit, DepositNumber, Nonce};
 
-#[derive(Drop)]
+#[derive(Clone, Copy)]
 pub struct ClaimFields {
     pub member: u64,
     pub number: DepositNumber,
@@ -9,7 +9,7 @@ pub struct ClaimFields {
     pub amount: u64,
 }
 
-#[derive(Drop)]
+#[derive(Clone, Copy)]
 pub struct TransferFields {
     pub from: u64,
     pub to: u64,
@@ -17,7 +17,7 @@ pub struct TransferFields {
     pub amount: u64,
 }
 
-#[derive(Drop)]
+#[derive(Clone, Copy)]
 pub struct WithdrawalFields {
     pub member: u64,
     pub asset: u64,
@@ -25,20 +25,20 @@ pub struct WithdrawalFields {
     pub payee: u64,
 }
 
-#[derive(Drop)]
+#[derive(Clone, Copy)]
 pub struct GrantFields {
     pub from: u64,
     pub to: u64,
     pub domain: u64,
 }
 
-#[derive(Drop)]
+#[derive(Clone, Copy)]
 pub struct SignFields {
     pub member: u64,
     pub domain: u64,
 }
 
-#[derive(Drop)]
+#[derive(Clone, Copy)]
 pub enum Call {
     Deposit(Deposit),
     Claim(ClaimFields),
@@ -52,14 +52,14 @@ pub enum Call {
 }
 
 // What reading one field gives: its number, or which field it is that does not read.
-#[derive(Drop)]
+#[derive(Clone, Copy)]
 pub enum Field {
     Number(u64),
     FailsAt(u64),
 }
 
 // What reading one line gives: one of the nine calls, or the field that it tells.
-#[derive(Drop)]
+#[derive(Clone, Copy)]
 pub enum Line {
     Reads(Call),
     Malformed(u64),

@@ -2,7 +2,7 @@
 // counts of the lent tables' used rows.
 use crate::rows::{DepositNumber, Nonce};
 
-#[derive(Drop)]
+#[derive(Clone, Copy)]
 pub struct Desk {
     // Member m's balance in asset a is at (m - 1) * 8 + (a - 1).
     pub balances: [u64; 128],
@@ -15,7 +15,7 @@ pub struct Desk {
 }
 
 // The counters and the counts of a desk: a number that a desk keeps beside its lists stands here alone.
-#[derive(Drop)]
+#[derive(Clone, Copy)]
 pub struct Counts {
     // The last deposit number accepted, and the next payment's nonce.
     pub last: DepositNumber,

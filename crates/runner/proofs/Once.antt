@@ -60,11 +60,11 @@ fed_once b chunk {k = k} {k' = k'} p q e =
     let h : k.feeding.held ≡ k'.feeding.held = sym (held-length k p.ready) ∙ ap (λ (s : List ℕ). length s) m.4 ∙ held-length k' q.ready in
     record { feeding = λ j. record { running = m.0 j; held = h j; at = g.0 j }; inbox = m.1; outbox = m.2; history = m.3; held = m.4; out = g.1 }
 
-pub run_some_once : AnyTwo run-some.ended (λ M 𝓤. run-some.clauses 𝓤) OneRun
+pub run_some_once : AnyTwo run-some.ended (λ M 𝓤 𝓛. run-some.clauses 𝓛) OneRun
 run_some_once w x g = both w (fed_once _ _)
 
 -- ---- start and close
-pub start_once : Coincide start.ended (λ M 𝓤. start.clauses 𝓤)
+pub start_once : Coincide start.ended (λ M 𝓤 𝓛. start.clauses 𝓛)
 start_once w x g =
     both w (λ p q.
     let d = once _ p.desk q.desk in
@@ -78,5 +78,5 @@ closes_once : (f : Feeding) (hold : List ℕ) (before : Page) {r r' : ℕ} {o o'
 unfolding Closes
 closes_once f hold before p q = page_once _ (p [] [] []) (q [] [] [])
 
-pub close_once : Coincide close.ended (λ M 𝓤. close.clauses 𝓤)
+pub close_once : Coincide close.ended (λ M 𝓤 𝓛. close.clauses 𝓛)
 close_once w x g = both w (λ p q. let e = closes_once _ _ _ p.page q.page in (e.0, λ j. (tt, (tt, (e.1 j, tt)))))

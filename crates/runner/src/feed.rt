@@ -17,7 +17,7 @@ use rules::limits::MOST_HELD;
 
 // What is kept between reads: what is kept between lines, how many bytes of a line are held, and the
 // place up to which the output is written.
-#[derive(Drop)]
+#[derive(Clone, Copy)]
 pub struct Feeding {
     pub running: Running,
     pub held: usize,
@@ -40,7 +40,7 @@ fn hold_byte(hold: &mut [u8], held: usize, b: u8) -> usize
 }
 
 // How far a read was fed.
-#[derive(Drop)]
+#[derive(Clone, Copy)]
 pub struct Fed {
     pub feeding: Feeding,
     pub next: usize,

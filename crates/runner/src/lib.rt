@@ -1,4 +1,6 @@
 // The book runner: line after line, and read after read.
+#![tactic(auto)]
+
 pub mod feed;
 pub mod running;
 pub mod start;

@@ -20,7 +20,7 @@ use steps::tally::raised;
 
 // What is kept between lines, beside the lent tables: the desk, the tally, and the number of the line
 // that comes next.
-#[derive(Drop)]
+#[derive(Clone, Copy)]
 pub struct Running {
     pub desk: Desk,
     pub tally: Tally,
@@ -29,7 +29,7 @@ pub struct Running {
 
 // What stands written so far: the tally of the replies, the number of the line that comes next, and the place up to
 // which the output is written.
-#[derive(Drop)]
+#[derive(Clone, Copy)]
 pub struct Written {
     pub tally: Tally,
     pub line: u64,
@@ -37,7 +37,7 @@ pub struct Written {
 }
 
 // What a line comes to: a reply that is all, or a call that nothing refuses and that is still to be done.
-#[derive(Drop)]
+#[derive(Clone, Copy)]
 pub enum Heard {
     Said(Answer),
     Due(Call),
@@ -95,7 +95,7 @@ pub(crate) fn answer_said(w: Written, out: &mut [u8], a: Answer) -> Written
 }
 
 // What a call leaves, beside the lent tables: the desk, and what stands written.
-#[derive(Drop)]
+#[derive(Clone, Copy)]
 pub struct After {
     pub desk: Desk,
     pub written: Written,

@@ -26,18 +26,18 @@ stepped_once y {r} {r'} e f =
       ap (λ (z : Replied). z.text.bytes) (e ∙ sym f),
     )
 
-pub step_once : Coincide step.ended (λ M 𝓤. step.clauses 𝓤)
+pub step_once : Coincide step.ended (λ M 𝓤 𝓛. step.clauses 𝓛)
 step_once w x g = both w (λ p q. let s = stepped_once _ p q in (s.0, λ j. (tt, (s.1 j, (s.2 j, (s.3 j, (s.4 j, (tt, (tt, (tt, tt))))))))))
 
 -- ---- the tally
-pub raised_once : Coincide raised.ended (λ M 𝓤. raised.clauses 𝓤)
+pub raised_once : Coincide raised.ended (λ M 𝓤 𝓛. raised.clauses 𝓛)
 raised_once w x g = value w
 
 -- ---- tallied_step: the same as step, and the tally
 tally_once : (t : Tally) {r r' : Stepped} {u u' : Tally} → r ≡ r' → u ≡ tallied t r.number → u' ≡ tallied t r'.number → u ≡ u'
 tally_once t e p q = p ∙ ap (λ (r : Stepped). tallied t r.number) e ∙ sym q
 
-pub tallied_step_once : Coincide tallied-step.ended (λ M 𝓤. tallied-step.clauses 𝓤)
+pub tallied_step_once : Coincide tallied-step.ended (λ M 𝓤 𝓛. tallied-step.clauses 𝓛)
 tallied_step_once w x g =
     from_each w (joined w (one w) (one w)) (joined w (one w) (one w)) (λ p q.
     let s = stepped_once _ p.0 q.0 in

@@ -36,7 +36,7 @@ pub(crate) fn counted_step(
 }
 
 // What a step leaves, with the tally that it raised.
-#[derive(Drop)]
+#[derive(Clone, Copy)]
 pub struct Tallied {
     pub stepped: Stepped,
     pub tally: Tally,

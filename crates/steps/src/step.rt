@@ -17,7 +17,7 @@ use rules::desk::Desk;
 
 // What a step leaves beside the lent tables: the reply's number, the desk, and the place up to which the
 // output is written.
-#[derive(Drop)]
+#[derive(Clone, Copy)]
 pub struct Stepped {
     pub number: u64,
     pub desk: Desk,

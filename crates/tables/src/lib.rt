@@ -1,6 +1,8 @@
 // Rows in a flat lent table: write a row, take one out, find one. The width is a parameter, so these
 // serve every table. No public function has a `requires`: where the rows do not lie within the table, it is
 // left as it was.
+#![tactic(auto)]
+
 pub mod rows;
 
 ghost use Rattle.std.specs.Prelude.{◌≡◌, ◌*◌, ◌≤◌, ◌<◌, leb, length, take, replicate};

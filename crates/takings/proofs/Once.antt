@@ -11,13 +11,13 @@ use Rattle.takings.specs.contracts.work.take_from as take-from
 use Rattle.takings.specs.contracts.work.join as join
 
 -- ---- a lent table of lots
-pub lot_at_once : Coincide lot-at.ended (λ M 𝓤. lot-at.clauses 𝓤)
+pub lot_at_once : Coincide lot-at.ended (λ M 𝓤 𝓛. lot-at.clauses 𝓛)
 lot_at_once w x g = value w
 
-pub append_once : Coincide append.ended (λ M 𝓤. append.clauses 𝓤)
+pub append_once : Coincide append.ended (λ M 𝓤 𝓛. append.clauses 𝓛)
 append_once w x g = first w
 
-pub clear_once : Coincide clear.ended (λ M 𝓤. clear.clauses 𝓤)
+pub clear_once : Coincide clear.ended (λ M 𝓤 𝓛. clear.clauses 𝓛)
 clear_once w x g = first w
 
 -- ---- a taking, and pieces that join the end
@@ -28,8 +28,8 @@ OneTaking x =
     let r' = x.result' in
     (r.kept ≡ r'.kept) × (r.taken ≡ r'.taken) × (take r.kept x.left.0 ≡ take r'.kept x.left'.0) × (take r.taken x.left.1.1.0 ≡ take r'.taken x.left'.1.1.0)
 
-pub take_from_once : AnyTwo take-from.ended (λ M 𝓤. take-from.clauses 𝓤) OneTaking
+pub take_from_once : AnyTwo take-from.ended (λ M 𝓤 𝓛. take-from.clauses 𝓛) OneTaking
 take_from_once w x g = both w (λ p q. (once _ p.kept q.kept, once _ p.taken q.taken, once _ p.stay q.stay, once _ p.wait q.wait))
 
-pub join_once : Coincide join.ended (λ M 𝓤. join.clauses 𝓤)
+pub join_once : Coincide join.ended (λ M 𝓤 𝓛. join.clauses 𝓛)
 join_once w x g = first w

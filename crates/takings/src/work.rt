@@ -9,7 +9,7 @@ use rules::rows::Lot;
 
 // How far a taking from a line is: what is still due, how many rows stay so far, and how many pieces
 // were taken.
-#[derive(Drop)]
+#[derive(Clone, Copy)]
 pub struct Taking {
     pub due: u64,
     pub kept: usize,
@@ -18,7 +18,7 @@ pub struct Taking {
 
 // What becomes of one lot: the piece of it that is taken, if any, and the rest that stays, if any; and
 // whether either has to be written.
-#[derive(Drop)]
+#[derive(Clone, Copy)]
 pub struct Cut {
     pub piece: Lot,
     pub rest: Lot,
