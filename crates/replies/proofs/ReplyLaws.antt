@@ -1,15 +1,9 @@
 -- What is written for a reply: its line's start, its pieces, and how much room they want.
 use Prim.Native.Nat.{ℕ}
-use mathlib.Core.Path.{◌≡◌, ap}
+use mathlib.Core.Path.{◌≡◌, refl, ap}
 use mathlib.Core.List.{List, [], ◌∷◌, ◌++◌, append_assoc, append-nil}
-use mathlib.Core.Bool.{not}
-use lib.Dec.{T}
-use mir.Val.{has_key}
-use types.Run.{OneOf, miss}
-use denote.Enum.Declared.{tag_of}
 use Rattle.rules.specs.declared.rows.Lot.{Lot}
 use Rattle.rules.specs.declared.answers.Refusal.{Refusal}
-use Rattle.rules.specs.contracts.answers.Refusal as declared
 use Rattle.rules.specs.Lists.{joined}
 use Rattle.rules.specs.Lines.{line_feed, decimal, tabbed}
 use Rattle.rules.specs.Replies.{Reply, told_refusal}
@@ -52,8 +46,8 @@ pub put-pieces : (p : Page) {q r : Page} (ls : List Lot) (l : Lot) → q ≡ put
 unfolding joined
 put-pieces p ls l e f = rw (joined_append piece_values ls (l ∷ [])) (put-values p (joined piece_values ls) (piece_values l) e f)
 
--- a refusal of any tag but the first, which is Malformed's, tells its number alone
-pub number_alone : (keys : List ℕ) → T (not (has_key keys 0)) → {r : Refusal} → Telling r → OneOf keys (tag_of declared.the_type r) → (told_refusal r).values ≡ []
+-- a refusal that is no Malformed tells its number alone
+pub number_alone : {r : Refusal} → Telling r → ((k : ℕ) → r ≡ Refusal.Malformed k → ⊥) → (told_refusal r).values ≡ []
 unfolding told_refusal
-number_alone keys h (Telling.field k) e = absurd (miss keys 0 h e)
-number_alone keys h (Telling.alone q) e = ap (λ (x : Reply). x.values) q
+number_alone (Telling.field k) h = absurd (h k refl)
+number_alone (Telling.alone q) h = ap (λ (x : Reply). x.values) q
