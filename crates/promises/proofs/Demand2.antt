@@ -23,7 +23,7 @@ use Rattle.promises.proofs.UpFrom.{up-length, up_first}
 use Rattle.promises.proofs.Queue.{in_line_lem, queue}
 use Rattle.promises.proofs.Leaves.{leaves}
 use Rattle.promises.proofs.Accepts.{accepts}
-use Rattle.promises.proofs.StartedBooks.{in_frame, by_history_lem}
+use Rattle.promises.proofs.StartedBooks.{in_frame_lem, by_history_lem}
 use Rattle.promises.proofs.Traces.{payment-traced}
 use Rattle.promises.proofs.Since.{since}
 
@@ -129,7 +129,7 @@ module _ (b : Book) (cs : List Call) (e : Empty b) where
   demand2 =
       let r : Started (run b cs) = from_start.started in
       record {
-        frame = in_frame (run b cs) r;
+        frame = in_frame_lem (run b cs) r;
         accepting = λ c. accepts (run b cs) c r;
         leaves = leaves (run b cs);
         records = from_start.records ∙ ap (λ (h : List Record). h ++ joined records_of (accepted b cs)) no_record;

@@ -7,7 +7,7 @@ use Rattle.rules.specs.Limits.{asset_count}
 use Rattle.rules.specs.Lists.{sum_of}
 use Rattle.rules.specs.State.{State, Book, Empty, Outside, view}
 use Rattle.rules.specs.Effects.{effect, deposited, withdrawn, sent, settled_one, outside_after, oldest}
-use Rattle.rules.specs.Runs.{run, gather, depositing, sending, settling, settlements}
+use Rattle.rules.specs.Runs.{run, gather, depositing, sending, settling}
 use Rattle.rules.specs.Sheet.{up_from, deposited_in, paid_in, accepted_deposits, settled_sum, chain_total}
 use Rattle.rules.specs.Views.{Seen, outside_of, seen_outside, outside_view}
 use Rattle.promises.specs.Promises.{OutsideTold, OutsideAgreed}
