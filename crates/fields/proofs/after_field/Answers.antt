@@ -1,3 +1,4 @@
+-- `after_field`: a tab here, and the part begins here; otherwise the part from here on is looked through, and what is handed back begins where the field ends. Past the line's end nothing is left.
 use Prim.Native.Nat.{ℕ, ◌-◌}
 use mathlib.Core.Path.{sym, ap, ◌∙◌}
 use mathlib.Core.List.{List, []}
@@ -8,7 +9,6 @@ use Rattle.rules.specs.Lines.{field_end, after_field}
 use Rattle.fields.proofs.FieldLaws.{from_on, end_here, end_within}
 use Rattle.fields.proofs.after_field.Goals as goal
 
--- `after_field`: a tab here, and the part begins here; otherwise the part from here on is looked through, and what is handed back begins where the field ends. Past the line's end nothing is left.
 -- the part from a place on, as the code takes it
 abbrev part-from : List ℕ → ℕ → List ℕ
 part-from s at = take (length s - at) (drop at s)

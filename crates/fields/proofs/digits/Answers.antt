@@ -1,3 +1,4 @@
+-- `digits`: what is read from place i on, after the value so far, is what is read of all.
 use mathlib.Core.Path.{sym, ◌∙◌}
 use Rattle.fields.proofs.FieldLaws.{end_here, end_none, from_first, from_end, from-not, from_more, grown_within}
 use borrow.Author.Rules.{rules}

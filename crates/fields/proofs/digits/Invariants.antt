@@ -6,7 +6,6 @@ use Rattle.fields.specs.Reading.{digits_read}
 use Rattle.fields.proofs.FieldLaws.{read_from}
 use Rattle.fields.proofs.digits.Given as goal
 
--- `digits`: what is read from place i on, after the value so far, is what is read of all.
 abbrev pub invariant-loop-i : goal.invariant-loop-i
 invariant-loop-i l = (l.v ≤ highest_field) × (digits_read l.k l.s ≡ read_from l.k l.s l.v l.i)
 

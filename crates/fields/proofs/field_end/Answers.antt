@@ -1,3 +1,4 @@
+-- `field_end`: up to i no tab was met: the end is i and the end of what is left.
 use native.Mathlib.Omega.{arith}
 use Rattle.fields.proofs.FieldLaws.{end_here, end_later, end_none}
 use borrow.Author.Rules.{rules}

@@ -4,7 +4,6 @@ use lib.ListN.{length, drop}
 use Rattle.rules.specs.Lines.{field_end}
 use Rattle.fields.proofs.field_end.Given as goal
 
--- `field_end`: up to i no tab was met: the end is i and the end of what is left.
 abbrev pub invariant-loop-i : goal.invariant-loop-i
 invariant-loop-i l = (l.i ≤ length l.s) × (field_end l.s ≡ l.i + field_end (drop l.i l.s))
 

@@ -1,3 +1,4 @@
+-- `is_shaped`: the three tests of the definition.
 use Rattle.fields.specs.Reading.{is_shaped}
 use Rattle.fields.proofs.is_shaped.Goals as goal
 

@@ -1,10 +1,10 @@
+-- `next_field`: a number where the digits have one and their text has its shape.
 use mathlib.Core.Path.{sym, ap, ◌∙◌}
 use native.Mathlib.Omega.{arith}
 use Rattle.fields.specs.Reading.{is_shaped}
 use Rattle.fields.proofs.FieldLaws.{next-none, next-not, next_misshaped, next_read_lem, end_read, end_bound, part_read}
 use Rattle.fields.proofs.next_field.Goals as goal
 
--- `next_field`: a number where the digits have one and their text has its shape.
 pub returns-then-s-eq0 : goal.returns-then-s-eq0
 returns-then-s-eq0 c = sym (next-none c.args.k c.args.s.now c.if-s-eq0.true)
 

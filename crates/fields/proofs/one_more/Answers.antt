@@ -1,3 +1,4 @@
+-- `one_more`: the tests before the product are the test after it.
 use mathlib.Core.Path.{◌≡◌}
 use mathlib.Core.Bool.{and-false}
 use Prim.Native.Nat.{◌+◌, ◌-◌, ◌*◌}
@@ -7,7 +8,6 @@ use Rattle.rules.specs.Limits.{highest_field}
 use Rattle.fields.specs.Reading.{one_more}
 use Rattle.fields.proofs.one_more.Goals as goal
 
--- `one_more`: the tests before the product are the test after it.
 pub returns-then-b-lt48 : goal.returns-then-b-lt48
 unfolding one_more
 returns-then-b-lt48 c = rw (lt-leb 48 c.args.b c.if-b-lt48.true)
