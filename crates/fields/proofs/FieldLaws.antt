@@ -8,7 +8,7 @@ use native.Mathlib.Omega.{arith}
 use lib.Dec.{leb, eqb}
 use lib.ListN.{length, get_or, take, drop, length-drop, drop_of_length-le}
 use lib.Seq.{drop-cons, drop-drop, take_all}
-use borrow.Author.Tests.{eq-eqb, ne_eqb, le-ltb, lt-ltb, le-leb, lt-leb, leb-false}
+use borrow.Author.Tests.{eq-eqb, ne_eqb, le-ltb, lt-ltb, le-leb, lt-leb, leb-false, leb-true}
 use Rattle.rules.specs.declared.calls.Field.{Field}
 use Rattle.rules.specs.Limits.{highest_field}
 use Rattle.rules.specs.Lists.{all, index_of}
@@ -79,6 +79,22 @@ more k v b f = go (is_digit b) refl (leb (v * 10 + (b - 48)) highest_field) refl
         let big : highest_field < value_after (v * 10 + (b - 48)) f = omega (arith, leb-false (v * 10 + (b - 48)) highest_field e, value_grows (v * 10 + (b - 48)) f) in
         rw (d, e, lt-leb (value_after (v * 10 + (b - 48)) f) highest_field big, and-false)
     go true d true e = rw (d, e)
+
+-- what is made is a number that a field can hold
+pub grown_within : (v b : ℕ) {n : ℕ} → one_more v b ≡ Grown.To n → n ≤ highest_field
+unfolding one_more
+grown_within v b {n} e = go (is_digit b) (leb (v * 10 + (b - 48)) highest_field) refl e
+  where
+    go : (d l : Bool) → leb (v * 10 + (b - 48)) highest_field ≡ l → cond (d && l) (Grown.To (v * 10 + (b - 48))) Grown.NoNumber ≡ Grown.To n → n ≤ highest_field
+    go false l p q =
+        let z : ◌≡◌ {A = ℕ} 0 1 = cc in
+        omega arith
+    go true false p q =
+        let z : ◌≡◌ {A = ℕ} 0 1 = cc in
+        omega arith
+    go true true p q =
+        let z : v * 10 + (b - 48) ≡ n = cc in
+        omega (arith, leb-true (v * 10 + (b - 48)) highest_field p)
 
 -- what is read of field k from place i on, after the value so far: the number, and the field's end
 unfoldable pub read_from : ℕ → List ℕ → ℕ → ℕ → ReadField

@@ -1,0 +1,13 @@
+-- `read::read_transfer`: the form's call, or the field that does not read.
+use mathlib.Core.Path.{ap}
+use Rattle.rules.specs.Lines.{transfer_form, formed}
+use Rattle.lines.specs.Reading.{four}
+use Rattle.lines.proofs.read.read_transfer.Goals as goal
+
+pub returns-in-Numbers : goal.returns-in-Numbers
+unfolding formed transfer_form four
+returns-in-Numbers c = ap (formed transfer_form) c.in-Numbers.ensures
+
+pub returns-in-FailsAt : goal.returns-in-FailsAt
+unfolding formed four
+returns-in-FailsAt c = ap (formed transfer_form) c.in-FailsAt.ensures
