@@ -275,10 +275,10 @@ taken_own m a x (l ∷ ls) = go (eqb x 0) (in_line m a l) (leb l.amount x) refl 
     go : (p q r : Bool) → in_line m a l ≡ q → map (of_member m) (taken m a x ls) ≡ taken m a x ls → map (of_member m) (taken m a (x - l.amount) ls) ≡ taken m a (x - l.amount) ls
         → map (of_member m) (cond p [] (cond q (cond r (l ∷ taken m a (x - l.amount) ls) (of_amount x l ∷ [])) (taken m a x ls)))
         ≡ cond p [] (cond q (cond r (l ∷ taken m a (x - l.amount) ls) (of_amount x l ∷ [])) (taken m a x ls))
-    go true q r f later whole = refl
-    go false false r f later whole = later
-    go false true true f later whole = ap₂ (λ (y : Lot) (ys : List Lot). y ∷ ys) (own f) whole
-    go false true false f later whole = ap (λ (y : Lot). of_amount x y ∷ []) (own f)
+    go true q r f later all = refl
+    go false false r f later all = later
+    go false true true f later all = ap₂ (λ (y : Lot) (ys : List Lot). y ∷ ys) (own f) all
+    go false true false f later all = ap (λ (y : Lot). of_amount x y ∷ []) (own f)
 
 -- pieces that join a table at its first row stand in front of it
 pub pieces_in_front : (m a x : ℕ) (ls held out : List Lot) (n : ℕ) → take n held ≡ taken m a x ls → n ≤ length out → appended 0 (map (of_member m) (take n held)) out ≡ in_front (taken m a x ls) out
