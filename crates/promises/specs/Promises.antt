@@ -67,7 +67,7 @@ pub record CutInto (read : List ℕ) (feeds : ℕ) (ls : List InputLine) : Type 
   pub at_most : length ls ≤ feeds + 1
   pub some_byte : all (λ l. l.finished || leb 1 (length l.text)) ls ≡ true
 
--- what is written is one reply for each of the first 100,000 lines (by definition, `inputLines`), numbered 1, 2, 3, .., and then the tally, whose two numbers sum to the count of lines; each reply and the tally is one line
+-- what is written is one reply for each of the first 100,000 lines (by definition, `input_lines`), numbered 1, 2, 3, .., and then the tally, whose two numbers sum to the count of lines; each reply and the tally is one line
 pub record Answers (input : List ℕ) : Type 0 where
   pub text : transcript input ≡ reply_texts 1 (answered input) ++ end_text (record { done = done_count (answered input); other = other_count (answered input) })
   pub one_each : length (answered input) ≡ length (input_lines input)
