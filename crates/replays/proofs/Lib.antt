@@ -2,4 +2,3 @@ pub mod Replaying
 pub mod Payments
 pub mod Pieces
 pub mod Once
-pub mod ReplayCalls
