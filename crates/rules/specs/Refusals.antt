@@ -1,6 +1,6 @@
 -- Document 01, "Reply numbers": for each call its table of refusals, the number and when it is given; those that say that a table is full stand in a table of their own. Two stand apart: Malformed is about the line (Lines), BadBook about the book (Frame, History).
 use Rattle.std.specs.Prelude.{ℕ, ◌+◌, Bool, not, ◌||◌, List, [], ◌∷◌, ◌++◌, leb, ltb, eqb, length}
-use Rattle.rules.specs.Types.{Deposit, Nonce, Refusal, Call}
+use Rattle.rules.specs.Types.{Nonce, Refusal, Call}
 use Rattle.rules.specs.Limits.{is_member, is_asset, is_domain, is_amount, is_payee, ceiling, highest_number, inbox_rows, outbox_rows, history_rows}
 use Rattle.rules.specs.Lists.{any}
 use Rattle.rules.specs.State.{State, payments}
