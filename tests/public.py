@@ -37,7 +37,7 @@ def functions_of(crate):
             head = source[found.start():source.index("\n{", found.start())] if "\n{" in source[found.start():] else source[found.start():]
             brace = source[found.start():].split("\n", 1)[0].rstrip().endswith("{")
             name = "::".join([crate] + ([] if module == "lib" else [module]) + [found.group(1)])
-            yield name, not brace and "ensures {" in head
+            yield name, not brace and bool(re.search(r"\bensures (\w+ )?\{", head))
 
 
 def libraries():
@@ -56,9 +56,9 @@ def form_of(name, lemma):
     """How the lemma is stated over the function's own contract: Coincide, or AnyTwo, which leaves something open."""
     crate, path = name.split("::", 1)
     once = text(CRATES, crate, "proofs", "Once.antt")
-    own = re.search(rf"^use Rattle·{crate}·proofs\.proofs\.{path.replace('::', '.')} as (\S+)$", once, re.M)
-    if own and "\nuse Rattle·rules.specs.Coincide.{" in once:
-        contract = f"{own[1]}.ended (λ M 𝓤. {own[1]}.clauses 𝓤)"
+    own = re.search(rf"^use Rattle\.{crate}\.specs\.contracts\.{path.replace('::', '.')} as (\S+)$", once, re.M)
+    if own and "\nuse Rattle.rules.specs.Coincide.{" in once:
+        contract = f"{own[1]}.ended (λ M 𝓤 𝓛. {own[1]}.clauses 𝓛)"
         if f"\npub {lemma} : Coincide {contract}\n" in once:
             return "Coincide"
         if f"\npub {lemma} : AnyTwo {contract} " in once:
