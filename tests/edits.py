@@ -1,12 +1,12 @@
 #!/usr/bin/env python3
-"""Reads what the prover said of the must-fail edits; asked to, weakens contracts, and sees who notices.
+"""Reads what the prover says of the must-fail edits; asked to, weakens contracts, and sees who notices.
 
-    python3 tests/edits.py
+    python3 tests/edits.py [CRATE..]
     python3 tests/edits.py weaken [--all] [CRATE..]
 
-The first reads the logs that a gate, or `rt must-fail`, leaves below target/must-fail. Wrong is an edit without a
-log, or with a log of other sources; an edit under which a function that docs/PROMISES.md lists for it stays proved;
-and an edit that was refused because a proof file no longer fits the code, since then nothing was found to be false.
+The first tries each edit of the crates that are named, or of every crate, in a copy. Wrong is an edit that the prover
+does not refuse; an edit under which a function that docs/PROMISES.md lists for it stays proved; and an edit that was
+refused because a proof file no longer fits the code, since then nothing was found to be false.
 The last line is 'N edits, 0 wrong'.
 
 The second weakens a contract of each crate that is named, or of every crate, in a copy: one `ensures` of a public
@@ -25,11 +25,8 @@ import tempfile
 
 from public import CRATES, TOP, libraries, listed, public_modules, text
 
-LOGS = os.path.join(TOP, "target", "must-fail")
-PARTS = ("src", "specs", "proofs")
-
 # An error that only follows from another one.
-FOLLOWS = r"was not admitted"
+FOLLOWS = r"was not admitted|, which was rejected, w(as|ere) not checked"
 
 # A proof file that speaks of a step, a name or a field which the edited code has no more, or in another order.
 MISFITS = (
@@ -38,8 +35,8 @@ MISFITS = (
     r"has no field",
     r"is expected here",
     r"this is applied to an argument but has type",
-    r"expected type `tie\.Need-",
-    r"differ only where one has `\S*\.Lts\.(Then|Else|After|Joined|In)",
+    r"`goal\.[^`]*`: module",
+    r"differ only where one has `\S*\.Lts\.",
 )
 
 # The same in a law, which has no need to answer: its words are not in what it states any more.
@@ -60,7 +57,7 @@ def states_in(said):
 
 
 def is_misfit(path, line):
-    law = not path.endswith("/Proof.antt")
+    law = os.path.basename(path) not in ("Invariants.antt", "Answers.antt")
     return any(re.search(misfit, line) for misfit in MISFITS) or bool(law and re.search(LAW_MISFIT, line))
 
 
@@ -79,32 +76,7 @@ def edited(crate, edit):
     return files
 
 
-def sources(crate):
-    for part in PARTS:
-        for folder, _, names in os.walk(os.path.join(CRATES, crate, part)):
-            for name in names:
-                yield os.path.relpath(os.path.join(folder, name), os.path.join(CRATES, crate))
-
-
-def is_of_these_sources(crate, edit):
-    """Whether the log is of this edit to the crate as it now is: the copy that was checked lies beside the log."""
-    changed = edited(crate, edit)
-    for name in sources(crate):
-        copy = os.path.join(LOGS, crate, edit, name)
-        if not os.path.exists(copy) or text(copy) != (changed.get(name) or text(CRATES, crate, name)):
-            return False
-    return True
-
-
-def wrong_edit(crate, edit, functions):
-    log = os.path.join(LOGS, crate, edit, ".log")
-    if not os.path.exists(log):
-        yield "no log"
-        return
-    if not is_of_these_sources(crate, edit):
-        yield "its log is of other sources"
-        return
-    said = text(log)
+def wrong_edit(said, functions):
     if not re.search(r"^logic=not-proved", said, re.M):
         yield "it was not refused by the prover"
         return
@@ -114,23 +86,37 @@ def wrong_edit(crate, edit, functions):
             yield f"{name} stays proved"
     path, line = next(errors_in(said), ("", ""))
     if is_misfit(path, line):
-        yield f"{os.path.relpath(path, os.path.join(LOGS, crate, edit))} no longer fits: {line[:160]}"
+        yield f"{path} no longer fits: {line[:160]}"
 
 
-def read_logs():
+def tried(top, crate, edit):
+    """What the prover says of the crate under the edit."""
+    before = {}
+    for name, source in edited(crate, edit).items():
+        before[name] = text(CRATES, crate, name)
+        write(os.path.join(top, "crates", crate, name), source)
+    said = checked(top, crate)
+    for name, source in before.items():
+        write(os.path.join(top, "crates", crate, name), source)
+    return said
+
+
+def try_edits(crates):
     wrong, count = [], 0
-    for crate in libraries():
-        folder = os.path.join(CRATES, crate, "must-fail")
-        names = sorted(os.listdir(folder)) if os.path.isdir(folder) else []
-        for edit in (name.removesuffix(".edit") for name in names):
-            functions = [row[0] for row in listed() if f"{crate}/{edit}" in row[2]]
-            wrong += [f"{crate}/{edit}: {what}" for what in wrong_edit(crate, edit, functions)]
-            count += 1
+    with tempfile.TemporaryDirectory() as top:
+        copied(top)
+        for crate in crates:
+            folder = os.path.join(CRATES, crate, "must-fail")
+            names = sorted(os.listdir(folder)) if os.path.isdir(folder) else []
+            for edit in (name.removesuffix(".edit") for name in names):
+                functions = [row[0] for row in listed() if f"{crate}/{edit}" in row[2]]
+                wrong += [f"{crate}/{edit}: {what}" for what in wrong_edit(tried(top, crate, edit), functions)]
+                count += 1
     return wrong, f"{count} edits, {len(wrong)} wrong"
 
 
 # ---- contracts weakened
-TRUE = "    ensures { λ r. ⌜ r ≡ r ⌝ }"
+TRUE = "{ Unit {0} }"
 
 
 def contracts(crate):
@@ -139,13 +125,13 @@ def contracts(crate):
         source = text(CRATES, crate, "src", module + ".rt")
         for found in re.finditer(r"^pub fn (\w+).*?^\}$", source, re.M | re.S):
             path = ([] if module == "lib" else [module]) + [found.group(1)]
-            for line in re.finditer(r"^    ensures \{.*\}$", found.group(), re.M):
-                yield path, module + ".rt", found.start() + line.start(), found.start() + line.end()
+            for clause in re.finditer(r"^    ensures (?:\w+ )?(\{.*\})$", found.group(), re.M):
+                yield path, module + ".rt", found.start() + clause.start(1), found.start() + clause.end(1)
 
 
 def checked(top, crate):
-    """What `rt dev` says of the crate."""
-    ran = subprocess.run(["rt", "dev", crate], cwd=top, env=dict(os.environ, RT_CUT="0"), stdout=subprocess.PIPE, stderr=subprocess.STDOUT, text=True)
+    """What `rt check` says of the crate."""
+    ran = subprocess.run(["rt", "check"], cwd=os.path.join(top, "crates", crate), stdout=subprocess.PIPE, stderr=subprocess.STDOUT, text=True)
     return ran.stdout
 
 
@@ -180,12 +166,16 @@ def weakened(top, crate, every):
         yield f"{'::'.join([crate, *path])} ({file}:{line})", sorted(set(noticing(said, crate, path)))
 
 
+def copied(top):
+    """The repository, with what earlier checks kept."""
+    shutil.copy(os.path.join(TOP, "crates.txt"), top)
+    shutil.copytree(CRATES, os.path.join(top, "crates"))
+
+
 def weaken(crates, every):
     wrong, count = [], 0
     with tempfile.TemporaryDirectory() as top:
-        shutil.copy(os.path.join(TOP, "crates.txt"), top)
-        shutil.copytree(CRATES, os.path.join(top, "crates"))
-        shutil.copytree(os.path.join(TOP, "target"), os.path.join(top, "target"), ignore=shutil.ignore_patterns("must-fail", "goals"))
+        copied(top)
         for crate in crates:
             for name, by in weakened(top, crate, every):
                 print(f"{name}: noticed by {', '.join(by)}" if by else f"{name}: nothing notices", flush=True)
@@ -196,17 +186,16 @@ def weaken(crates, every):
 
 def main():
     words = sys.argv[1:]
-    if words[:1] == ["weaken"]:
-        named = [word for word in words[1:] if word != "--all"]
-        if not set(named) <= set(libraries()):
-            sys.exit(f"not a library of crates.txt: {' '.join(sorted(set(named) - set(libraries())))}")
+    weakens = words[:1] == ["weaken"]
+    named = [word for word in words[weakens:] if word != "--all"]
+    if not set(named) <= set(libraries()):
+        sys.exit(f"not a library of crates.txt: {' '.join(sorted(set(named) - set(libraries())))}\n{__doc__}")
+    if weakens:
         wrong, last = weaken(named or libraries(), "--all" in words)
-    elif not words:
-        wrong, last = read_logs()
+    else:
+        wrong, last = try_edits(named or libraries())
         for line in wrong:
             print(line)
-    else:
-        sys.exit(__doc__)
     print(last)
     sys.exit(1 if wrong else 0)
 
