@@ -1,5 +1,2 @@
 pub mod Traced
 pub mod Once
-pub mod Table
-pub mod TraceCalls
-pub mod AskCalls
