@@ -4,7 +4,6 @@ use mathlib.Core.Path.{◌≡◌, refl, sym, ap, ◌∙◌}
 use mathlib.Core.Bool.{true, false}
 use mathlib.Core.List.{List, []}
 use native.Mathlib.Omega.{arith}
-use lib.ListN.{length}
 use Rattle.rules.specs.declared.calls.Call.{Call}
 use Rattle.rules.specs.declared.calls.Line.{Line}
 use Rattle.rules.specs.declared.desk.Desk.{Desk}
@@ -12,7 +11,7 @@ use Rattle.rules.specs.declared.answers.Answer.{Answer}
 use Rattle.rules.specs.declared.answers.Tally.{Tally}
 use Rattle.rules.specs.State.{Book}
 use Rattle.rules.specs.Replies.{told_refusal, told, plain}
-use Rattle.rules.specs.Answer.{book_of, reply_number, answer}
+use Rattle.rules.specs.Answer.{Outcome, book_of, reply_number, answer}
 use Rattle.rules.specs.Facts.{Accepted}
 use Rattle.rules.specs.Transcript.{answer_line, tallied}
 use Rattle.pages.specs.Writing.{Page, page, put}
@@ -84,14 +83,7 @@ module _ (d : Desk) (w : Written) (i o h : List ℕ) (l : Line) (p : Page) (r : 
       go zero = record { done = omega arith; other = omega arith; few = omega arith }
       go (suc m) = record { done = omega arith; other = omega arith; few = omega arith }
 
--- ---- a turn of the loop over lines, whichever of the two the line came to: in tables and a page as long as they came
-pub record Turned (b : Book) (l : Line) (w : Written) (out : List ℕ) (r : After) (i o h out' : List ℕ) : Type 0 where
-  pub leaves : Leaves w (page out w.at) (answer_line b l) r i o h out'
-  pub inbox : length i ≡ length b.inbox
-  pub outbox : length o ≡ length b.outbox
-  pub history : length h ≡ length b.history
-  pub page : length out' ≡ length out
-
-pub turned_as : (b : Book) (l : Line) (w : Written) (out : List ℕ) {d d' : Desk} {u u' : Written} {i i' o o' h h' q q' : List ℕ} → i ≡ i' → o ≡ o' → h ≡ h' → q ≡ q' → d ≡ d' → u ≡ u'
-    → Turned b l w out (record { desk = d'; written = u' }) i' o' h' q' → Turned b l w out (record { desk = d; written = u }) i o h q
-turned_as b l w out ei eo eh eq ed eu t = rw (ei, eo, eh, eq, ed, eu) t
+-- ---- a turn of the loop over lines, whichever of the two the line came to
+pub leaves_as : (w : Written) (p : Page) (x : Outcome) {d d' : Desk} {u u' : Written} {i i' o o' h h' q q' : List ℕ} → i ≡ i' → o ≡ o' → h ≡ h' → q ≡ q' → d ≡ d' → u ≡ u'
+    → Leaves w p x (record { desk = d'; written = u' }) i' o' h' q' → Leaves w p x (record { desk = d; written = u }) i o h q
+leaves_as w p x ei eo eh eq ed eu s = rw (ei, eo, eh, eq, ed, eu) s
