@@ -29,8 +29,9 @@ def kit():
 
 
 def own():
-    """What the toolchain has for this kind of machine."""
-    return os.path.join(kit(), "on", platform.machine())
+    """What the toolchain has for this kind of machine: a folder of its own, or the toolchain's."""
+    apart = os.path.join(kit(), "on", platform.machine())
+    return apart if os.path.isdir(apart) else kit()
 
 
 def run_by():
@@ -111,7 +112,7 @@ def is_elf(path):
 def book_places(whole):
     """Where the program is looked for: the linked program, and the script `./book` that runs it; whole: the
     script first, as one types it."""
-    places = [os.path.join(TOP, "target", "bin", "book"), os.path.join(TOP, "book")]
+    places = [os.path.join(TOP, "crates", "book", "out", "book"), os.path.join(TOP, "book")]
     return places[::-1] if whole else places
 
 
