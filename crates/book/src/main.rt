@@ -1,6 +1,9 @@
-// The book runner: standard input to standard output, from an empty book.
+// The book runner: standard input to standard output, from an empty book. Whether its last line is `end` tells a
+// reader that a transcript is whole; the exit status does not.
 #![tactic(auto)]
 
-fn main() {
-    program::run(libc::STDIN_FILENO);
+fn main(rt: HostRuntime) {
+    let mut reader = rt.stdin();
+    let mut writer = rt.stdout();
+    program::run(&rt, &mut reader, &mut writer);
 }

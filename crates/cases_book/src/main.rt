@@ -2,24 +2,26 @@
 // book. Arguments, files and what is to be written are made by tests/cases/book.py.
 #![tactic(auto)]
 
-fn main() {
-    let count = os::arg_count();
-    let mut i: usize = 1;
-    while i < count {
-        run_file(i);
-        i += 1;
+use std::fs::File;
+use std::{env, io};
+
+fn main(rt: HostRuntime) -> io::Result<()> {
+    for path in env::args(&rt)?.skip(1) {
+        run_file(&rt, path.as_str());
     }
+    Ok(())
 }
 
-// The session in the file that argument i names.
-fn run_file(i: usize) {
-    let mut path = io::buffer();
-    let length = os::arg(i, &mut path);
-    let fd = os::open_read(&path[..length]);
-    if fd < 0 {
-        os::fail(&path[..length]);
-        return;
+// The session in the file of this path.
+fn run_file(rt: &HostRuntime, path: &str) {
+    match File::open(rt, path) {
+        Ok(file) => {
+            let mut reader = file;
+            let mut writer = rt.stdout();
+            program::run(rt, &mut reader, &mut writer);
+        }
+        Err(why) => {
+            let _ = eprintln!(rt; "{path}: {why}");
+        }
     }
-    program::run(fd);
-    libc::close(fd);
 }

@@ -9,7 +9,6 @@ mod data;
 ghost use Rattle.std.specs.Prelude.{◌≤◌, ◌<◌, length};
 
 use data::{BOOKS, CALL_COUNT, CALLS, EDITS};
-use libc::STDOUT_FILENO;
 use rules::answers::Answered;
 use rules::calls::{ClaimFields, GrantFields, SignFields, TransferFields, WithdrawalFields};
 use rules::desk::{Counts, Desk};
@@ -17,28 +16,38 @@ use rules::limits::{
     DEPOSIT_WIDTH, HISTORY_SIZE, INBOX_SIZE, OUTBOX_SIZE, PAYMENT_WIDTH, RECORD_WIDTH,
 };
 use rules::rows::{Deposit, DepositNumber, Nonce};
+use std::io;
 
-fn main() {
+fn main(rt: HostRuntime) -> io::Result<()> {
     for book in 1..=BOOKS {
-        all_calls(book);
+        all_calls(&rt, book)?;
     }
+    Ok(())
 }
 
-fn all_calls(book: u64) {
+fn all_calls(rt: &impl Print, book: u64) -> io::Result<()> {
     for call in 1..=CALL_COUNT {
-        one(book, call);
+        one(rt, book, call)?;
     }
+    Ok(())
 }
 
 // One call on one book, which is made anew for it.
-fn one(book: u64, call: usize) {
+fn one(rt: &impl Print, book: u64, call: usize) -> io::Result<()> {
     let mut inbox = [0u64; INBOX_SIZE + DEPOSIT_WIDTH];
     let mut outbox = [0u64; OUTBOX_SIZE + PAYMENT_WIDTH];
     let mut history = [0u64; HISTORY_SIZE + RECORD_WIDTH];
-    with_tables(book, call, &mut inbox, &mut outbox, &mut history);
+    with_tables(rt, book, call, &mut inbox, &mut outbox, &mut history)
 }
 
-fn with_tables(book: u64, call: usize, inbox: &mut [u64], outbox: &mut [u64], history: &mut [u64]) {
+fn with_tables(
+    rt: &impl Print,
+    book: u64,
+    call: usize,
+    inbox: &mut [u64],
+    outbox: &mut [u64],
+    history: &mut [u64],
+) -> io::Result<()> {
     edit(book, 1, inbox);
     edit(book, 2, outbox);
     edit(book, 3, history);
@@ -55,7 +64,7 @@ fn with_tables(book: u64, call: usize, inbox: &mut [u64], outbox: &mut [u64], hi
     );
     let after = r.desk;
     let sum = digest(digest(digest(desk_digest(after), inbox), outbox), history);
-    report(book, call, r.number, sum, r.then);
+    report(rt, book, call, r.number, sum, r.then)
 }
 
 #[derive(Clone, Copy)]
@@ -89,18 +98,24 @@ fn asked(
     }
 }
 
-fn report(book: u64, call: usize, number: u64, sum: u64, then: u64) {
-    io::print_decimal(STDOUT_FILENO, book);
-    value(call as u64);
-    value(number);
-    value(sum);
-    value(then);
-    io::write_all(STDOUT_FILENO, b"\n");
+fn report(
+    rt: &impl Print,
+    book: u64,
+    call: usize,
+    number: u64,
+    sum: u64,
+    then: u64,
+) -> io::Result<()> {
+    print!(rt; "{book}")?;
+    value(rt, call as u64)?;
+    value(rt, number)?;
+    value(rt, sum)?;
+    value(rt, then)?;
+    println!(rt; "")
 }
 
-fn value(n: u64) {
-    io::write_all(STDOUT_FILENO, b"\t");
-    io::print_decimal(STDOUT_FILENO, n);
+fn value(rt: &impl Print, n: u64) -> io::Result<()> {
+    print!(rt; "\t{n}")
 }
 
 // ---- the books

@@ -9,16 +9,17 @@ mod data;
 ghost use Rattle.std.specs.Prelude.{◌≤◌, ◌<◌};
 
 use data::{CASE_COUNT, CASES};
-use libc::STDOUT_FILENO;
 use rules::answers::{Answer, Origin};
 use rules::desk::{Counts, Desk};
 use rules::limits::{HISTORY_SIZE, INBOX_SIZE, OUTBOX_SIZE, RECORD_WIDTH};
 use rules::rows::{DepositNumber, Lot, Nonce};
+use std::io;
 
-fn main() {
+fn main(rt: HostRuntime) -> io::Result<()> {
     for k in 0..CASE_COUNT {
-        one(k);
+        one(&rt, k)?;
     }
+    Ok(())
 }
 
 // Number p of case k; past the last there is none, so 0.
@@ -30,23 +31,22 @@ fn number(k: usize, p: usize) -> u64
     if at < CASES.len() { CASES[at] } else { 0 }
 }
 
-fn one(k: usize)
+fn one(rt: &impl Print, k: usize) -> io::Result<()>
     requires { k < 100 }
 {
     let kind = number(k, 0);
     let mut history = [0u64; HISTORY_SIZE];
     fill(kind, &mut history);
     change(number(k, 1) as usize, number(k, 2), &mut history);
-    io::print_decimal(STDOUT_FILENO, k as u64);
+    print!(rt; "{k}")?;
     let d = desk(records(kind));
-    provenances(d, &history);
-    traces(d, &history, number(k, 3), number(k, 4));
-    io::write_all(STDOUT_FILENO, b"\n");
+    provenances(rt, d, &history)?;
+    traces(rt, d, &history, number(k, 3), number(k, 4))?;
+    println!(rt; "")
 }
 
-fn value(n: u64) {
-    io::write_all(STDOUT_FILENO, b"\t");
-    io::print_decimal(STDOUT_FILENO, n);
+fn value(rt: &impl Print, n: u64) -> io::Result<()> {
+    print!(rt; "\t{n}")
 }
 
 // ---- the books
@@ -175,38 +175,57 @@ fn change(place: usize, x: u64, history: &mut [u64]) {
 }
 
 // ---- provenance
-fn provenances(d: Desk, history: &[u64]) {
-    provenance(d, history, 2, 3);
-    provenance(d, history, 4, 3);
-    provenance(d, history, 17, 3);
-    provenance(d, history, 2, 9);
+fn provenances(rt: &impl Print, d: Desk, history: &[u64]) -> io::Result<()> {
+    provenance(rt, d, history, 2, 3)?;
+    provenance(rt, d, history, 4, 3)?;
+    provenance(rt, d, history, 17, 3)?;
+    provenance(rt, d, history, 2, 9)
 }
 
-fn provenance(d: Desk, history: &[u64], member: u64, asset: u64) {
+fn provenance(
+    rt: &impl Print,
+    d: Desk,
+    history: &[u64],
+    member: u64,
+    asset: u64,
+) -> io::Result<()> {
     let inbox = [0u64; INBOX_SIZE];
     let outbox = [0u64; OUTBOX_SIZE];
     let o = records::origin::provenance(d, &inbox, &outbox, history, member, asset);
     match o {
         Origin::Amount(n) => {
-            value(0);
-            value(n);
+            value(rt, 0)?;
+            value(rt, n)
         }
         Origin::Refused(why) => {
-            value(replies::refusal_number(why));
-            value(0);
+            value(rt, replies::refusal_number(why))?;
+            value(rt, 0)
         }
     }
 }
 
 // ---- trace
-fn traces(d: Desk, history: &[u64], work_rows: u64, piece_rows: u64) {
-    trace(d, history, work_rows, piece_rows, 0);
-    trace(d, history, work_rows, piece_rows, 1);
-    trace(d, history, work_rows, piece_rows, 255);
-    trace(d, history, work_rows, piece_rows, 18446744073709551615);
+fn traces(
+    rt: &impl Print,
+    d: Desk,
+    history: &[u64],
+    work_rows: u64,
+    piece_rows: u64,
+) -> io::Result<()> {
+    trace(rt, d, history, work_rows, piece_rows, 0)?;
+    trace(rt, d, history, work_rows, piece_rows, 1)?;
+    trace(rt, d, history, work_rows, piece_rows, 255)?;
+    trace(rt, d, history, work_rows, piece_rows, 18446744073709551615)
 }
 
-fn trace(d: Desk, history: &[u64], work_rows: u64, piece_rows: u64, n: u64) {
+fn trace(
+    rt: &impl Print,
+    d: Desk,
+    history: &[u64],
+    work_rows: u64,
+    piece_rows: u64,
+    n: u64,
+) -> io::Result<()> {
     let inbox = [0u64; INBOX_SIZE];
     let outbox = [0u64; OUTBOX_SIZE];
     let w = (work_rows % 1025) as usize;
@@ -214,10 +233,10 @@ fn trace(d: Desk, history: &[u64], work_rows: u64, piece_rows: u64, n: u64) {
     let nonce = Nonce(n);
     let s = lent(d, &inbox, &outbox, history, w, p, nonce);
     let a = s.answer;
-    value(replies::reply_number(a));
-    value(count(a));
-    value(s.work);
-    value(s.pieces);
+    value(rt, replies::reply_number(a))?;
+    value(rt, count(a))?;
+    value(rt, s.work)?;
+    value(rt, s.pieces)
 }
 
 // What a trace gives, with a digest of each lent table afterwards.

@@ -1,14 +1,59 @@
--- What a turn of a session comes to: of what its read gave, all is fed.
-use Rattle.std.specs.Prelude.{ℕ, ◌≡◌, true, List, ℤ, length, take}
-use Rattle.io.specs.Counts.{clamp_len}
-use Rattle.runner.specs.Machine.{Machine, feeds}
+-- What a turn of a session comes to: of what its read gave, all is fed, and what is answered is written; and what the turns of a session come to.
+use Rattle.std.specs.Prelude.{ℕ, ◌-◌, ◌^◌, ◌≡◌, ◌<◌, ◌≤◌, ◌⊎◌, Bool, true, false, List, [], ◌++◌, length, take, Option, Result, Ok, Err, IfSome}
+use Rattle.std.specs.Io.KnownBytes.{Appends, Consumes, IsAtEnd}
+use Rattle.std.specs.declared.io.Error.{Error}
+use Rattle.rules.specs.Answer.{book_of}
+use Rattle.rules.specs.Transcript.{transcript}
+use Rattle.rules.specs.State.{desk_of, empty_state}
+use Rattle.runner.specs.Machine.{Machine, stopped, feeds, writes, closing}
 use Rattle.program.specs.declared.Turn.{Turn}
 
--- the bytes that a read gave: as many at the start of the buffer as the system answered; none where the read failed, or at the end of the input
-abbrev pub given : ℤ → List ℕ → List ℕ
-given got input = take (clamp_len got (length input)) input
+-- the bytes that a read gave: as many at the start of the buffer as the reader named; none where the read failed, or at the end of the input
+abbrev pub given : Result ℕ Error → List ℕ → List ℕ
+given (Ok n) input = take n input
+given (Err why) input = []
 
 -- unless the read or a write failed every one of these bytes is fed, once and in order; and there is another turn only where neither failed
 pub record Answers (bytes : List ℕ) (before after : Machine) (r : Turn) : Type 0 where
   pub fed : r.whole ≡ true → after ≡ feeds before bytes
   pub more : r.on ≡ true → r.whole ≡ true
+
+-- there is another turn only where bytes were read; and there is none, though neither failed, only at the end of the input, or after 100,000 lines
+pub record Passes (bytes : List ℕ) (after : Machine) (r : Turn) : Type 0 where
+  pub some : r.on ≡ true → 0 < length bytes
+  pub last : r.on ≡ false → r.whole ≡ true → (bytes ≡ []) ⊎ (stopped after ≡ true)
+
+-- what a writer holds, where it is known, grows by a beginning of a text
+pub record AppendsPart (before after : Option (List ℕ)) (text : List ℕ) : Type 0 where
+  pub put : List ℕ
+  pub left : List ℕ
+  pub cut : put ++ left ≡ text
+  pub grown : Appends before after put
+
+-- a text is written: all of it where no write failed, and else a beginning
+pub record Wrote (before after : Option (List ℕ)) (text : List ℕ) (whole : Bool) : Type 0 where
+  pub part : AppendsPart before after text
+  pub all : whole ≡ true → Appends before after text
+
+-- the machine that nothing is fed yet, over these tables
+abbrev pub begun_machine : List ℕ → List ℕ → List ℕ → Machine
+begun_machine inbox outbox history = record { book = book_of (desk_of empty_state) inbox outbox history; tally = record { done = 0; other = 0 }; line = 1; held = [] }
+
+-- all that the machine writes for these bytes, and at the end of the input
+abbrev pub text_for : Machine → List ℕ → List ℕ
+text_for m bytes = writes m bytes ++ closing (feeds m bytes)
+
+-- of an input these bytes were read, and the rest is left: this is its end, or 100,000 lines are answered, or a read gave some byte 2^64 - 1 times, which is more than any run makes
+abbrev pub IsOver : Machine → List ℕ → Option (List ℕ) → Type 0
+IsOver m bytes left = IsAtEnd left ⊎ ((stopped (feeds m bytes) ≡ true) ⊎ (2 ^ 64 - 1 ≤ length bytes))
+
+-- a session: the reader gave these bytes, which are the first of those that it had, where they are known. Of the text for them all is written where every read and write went well, and else a beginning; and of what is written at the end of the input nothing, unless it is over
+pub record Session (m : Machine) (had left before after : Option (List ℕ)) (whole : Bool) : Type 0 where
+  pub bytes : List ℕ
+  pub read : Consumes had left bytes
+  pub wrote : Wrote before after (text_for m bytes) whole
+  pub over : IsOver m bytes left ⊎ ((whole ≡ false) × AppendsPart before after (writes m bytes))
+
+-- where what the reader has is known, it is answered by its transcript: by all of it where every read and write went well, and else by a beginning
+abbrev pub WritesTranscript : Option (List ℕ) → Option (List ℕ) → Option (List ℕ) → Bool → Type 0
+WritesTranscript had before after whole = IfSome had (λ input. length input < 2 ^ 64 - 1 → Wrote before after (transcript input) whole)
