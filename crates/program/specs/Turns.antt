@@ -18,9 +18,10 @@ pub record Answers (bytes : List ℕ) (before after : Machine) (r : Turn) : Type
   pub fed : r.whole ≡ true → after ≡ feeds before bytes
   pub more : r.on ≡ true → r.whole ≡ true
 
--- there is another turn only where bytes were read; and there is none, though neither failed, only at the end of the input, or after 100,000 lines
+-- there is another turn only where bytes were read, and 100,000 lines are not answered yet; and there is none, though neither failed, only at the end of the input, or after 100,000 lines
 pub record Passes (bytes : List ℕ) (after : Machine) (r : Turn) : Type 0 where
   pub some : r.on ≡ true → 0 < length bytes
+  pub going : r.on ≡ true → stopped after ≡ false
   pub last : r.on ≡ false → r.whole ≡ true → (bytes ≡ []) ⊎ (stopped after ≡ true)
 
 -- what a writer holds, where it is known, grows by a beginning of a text
