@@ -48,13 +48,13 @@ text_for m bytes = writes m bytes ++ closing (feeds m bytes)
 abbrev pub IsOver : Machine → List ℕ → Option (List ℕ) → Type 0
 IsOver m bytes left = IsAtEnd left ⊎ ((stopped (feeds m bytes) ≡ true) ⊎ (2 ^ 64 - 1 ≤ length bytes))
 
--- a session: the reader gave these bytes, which are the first of those that it had, where they are known. Of the text for them all is written where every read and write went well, and else a beginning; and of what is written at the end of the input nothing, unless it is over
+-- a session: the reader gave these bytes, which are the first of those that it had, where they are known. Of the text for them all is written where the session was whole, and else a beginning; and of what is written at the end of the input nothing, unless it is over
 pub record Session (m : Machine) (had left before after : Option (List ℕ)) (whole : Bool) : Type 0 where
   pub bytes : List ℕ
   pub read : Consumes had left bytes
   pub wrote : Wrote before after (text_for m bytes) whole
   pub over : IsOver m bytes left ⊎ ((whole ≡ false) × AppendsPart before after (writes m bytes))
 
--- where what the reader has is known, it is answered by its transcript: by all of it where every read and write went well, and else by a beginning
+-- where what the reader has is known, it is answered by its transcript: by all of it where the session was whole, and else by a beginning
 abbrev pub WritesTranscript : Option (List ℕ) → Option (List ℕ) → Option (List ℕ) → Bool → Type 0
 WritesTranscript had before after whole = IfSome had (λ input. length input < 2 ^ 64 - 1 → Wrote before after (transcript input) whole)
