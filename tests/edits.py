@@ -6,7 +6,7 @@
 
 The first tries each edit of the crates that are named, or of every crate, in a copy. Wrong is an edit that the prover
 does not refuse; an edit under which a function that docs/PROMISES.md lists for it stays proved; and an edit that was
-refused because a proof file no longer fits the code, since then nothing was found to be false.
+refused only because a proof file no longer fits the code, since then nothing was found to be false.
 The last line is 'N edits, 0 wrong'.
 
 The second weakens a contract of each crate that is named, or of every crate, in a copy: one `ensures` of a public
@@ -84,9 +84,10 @@ def wrong_edit(said, functions):
     for name in functions:
         if states.get(name, "proved") == "proved":
             yield f"{name} stays proved"
-    path, line = next(errors_in(said), ("", ""))
-    if is_misfit(path, line):
-        yield f"{path} no longer fits: {line[:160]}"
+    # an edit may rename a step, so that one answer does not fit, and be refused at another for what it says
+    errors = list(errors_in(said))
+    if errors and all(is_misfit(path, line) for path, line in errors):
+        yield f"{errors[0][0]} no longer fits: {errors[0][1][:160]}"
 
 
 def tried(top, crate, edit):
