@@ -121,11 +121,14 @@ TRUE = "{ Unit {0} }"
 
 
 def contracts(crate):
-    """Each `ensures` of a public function: the function's path, its file, and where the line starts and ends."""
+    """Each `ensures` of a public function that has a lemma in Once.antt: its path, its file, where the text starts and ends."""
+    lemmas = {row[0]: row[1] for row in listed()}
     for module in public_modules(crate):
         source = text(CRATES, crate, "src", module + ".rt")
         for found in re.finditer(r"^pub fn (\w+).*?^\}$", source, re.M | re.S):
             path = ([] if module == "lib" else [module]) + [found.group(1)]
+            if not lemmas.get("::".join([crate, *path])):
+                continue
             for clause in re.finditer(r"^    ensures (?:\w+ )?(\{.*\})$", found.group(), re.M):
                 yield path, module + ".rt", found.start() + clause.start(1), found.start() + clause.end(1)
 
@@ -140,7 +143,7 @@ def noticing(said, crate, path):
     """The proofs that fail by themselves, but for the function's own."""
     own = "/".join(["proofs", *path, ""])
     for file, line in errors_in(said):
-        name = file.split(f"/crates/{crate}/")[-1]
+        name = file.removeprefix("./")
         if not name.startswith(own):
             yield f"{name} ({line.split(':')[0]})"
 
