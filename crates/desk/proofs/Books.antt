@@ -1,26 +1,27 @@
 -- The two ends of every call: what a refusal leaves, and what is laid where nothing is refused. What a book in frame gives of its tables.
+use Rattle.std.specs.Prelude.{Result, Ok, Err}
 use Prim.Native.Nat.{ℕ, ◌+◌, ◌-◌, ◌*◌, ◌≤◌, ◌<◌}
 use mathlib.Core.Path.{◌≡◌, refl, sym, ap, ◌∙◌}
 use mathlib.Core.Logic.{◌≢◌}
-use mathlib.Core.Bool.{Bool, true, false, not, ◌&&◌, cond}
+use mathlib.Core.Bool.{Bool, true, false, ◌&&◌, cond}
 use mathlib.Core.List.{List, [], ◌∷◌, ◌++◌}
 use native.Mathlib.Omega.{arith}
 use lib.ListN.{get_or, set}
 use borrow.Author.Tests.{leb-true}
 use Rattle.rules.specs.declared.rows.Record.{Record}
-use Rattle.rules.specs.declared.desk.Desk.{Desk}
 use Rattle.rules.specs.declared.calls.Call.{Call}
-use Rattle.rules.specs.declared.answers.Answer.{Answer}
+use Rattle.rules.specs.Types.{Answer}
+use Rattle.rules.specs.declared.answers.Done.{Done}
 use Rattle.rules.specs.declared.answers.Refusal.{Refusal}
 use Rattle.rules.specs.Limits.{ceiling, history_rows, within, is_member, is_asset}
 use Rattle.rules.specs.Lists.{all}
 use Rattle.rules.specs.Tables.{lay, record_shape}
 use Rattle.rules.specs.State.{Book, history_of, view}
-use Rattle.rules.specs.Replies.{told_refusal, told, plain, smallest}
+use Rattle.rules.specs.Replies.{Reply, told_refusal, told, plainly, plain, smallest}
 use Rattle.rules.specs.Refusals.{table}
 use Rattle.rules.specs.Effects.{cell, balance}
 use Rattle.rules.specs.Frame.{up_to_ceiling, in_frame}
-use Rattle.rules.specs.Answer.{frame_test, bad_book, done, answer, reply_number, done_answer, pieces_of, book_of, outcome_of}
+use Rattle.rules.specs.Answer.{frame_test, bad_book, done, answer, reply_number, done_answer, pieces_of, outcome_of}
 use Rattle.rules.proofs.Shapes.{record_sound}
 use Rattle.rules.proofs.Books.{Framed}
 use Rattle.rules.proofs.Tests.{both_of, true_within, all-at}
@@ -28,54 +29,55 @@ use Rattle.rules.specs.Facts.{Within, Accepted}
 use Rattle.rules.proofs.Accepts.{accepted-number, by_number, not_done, framed-number, unframed_number}
 use Rattle.tables.specs.Rows.{put_at}
 use Rattle.tables.proofs.Laid.{row_added}
-use Rattle.desk.specs.Parts.{is_done, of_eight}
+use Rattle.desk.specs.Parts.{of_eight}
 use Rattle.desk.specs.Kept.{eight_set, balance_set}
-use Rattle.desk.proofs.Chains.{done-number, refused-number}
+use Rattle.rules.proofs.Told.{refusal_number}
 
 -- ---- the frame, and then the table
--- a call's answer, its table's behind the frame's test, tells the number that the rules give
-pub frame-told : (b : Book) (c : Call) (a found : Answer) → frame_test b c ≡ bad_book b → (in_frame b ≡ true → told found ≡ plain (smallest (table (view b) c)))
-    → a ≡ cond (not (in_frame b)) (Answer.Refused Refusal.BadBook) found → told a ≡ plain (reply_number b c)
+-- of a book in frame the table's answer tells the number that the rules give
+pub framed_reply : (b : Book) (c : Call) (r : Result (Unit {0}) Refusal) → frame_test b c ≡ bad_book b → in_frame b ≡ true
+    → told (plainly r) ≡ plain (smallest (table (view b) c)) → told (plainly r) ≡ plain (reply_number b c)
+framed_reply b c r e f h = rw (framed-number b c (ap (λ (x : ℕ × Bool). x.1) e ∙ rw f)) h
+
+-- and of one out of frame BadBook does
+pub unframed_reply : (b : Book) (c : Call) → frame_test b c ≡ bad_book b → in_frame b ≡ false → told (Err Refusal.BadBook) ≡ plain (reply_number b c)
 unfolding told_refusal told
-frame-told b c a found e h p = go (in_frame b) refl p
-  where
-    go : (t : Bool) → in_frame b ≡ t → a ≡ cond (not t) (Answer.Refused Refusal.BadBook) found → told a ≡ plain (reply_number b c)
-    go true f q = rw (q, framed-number b c (ap (λ (r : ℕ × Bool). r.1) e ∙ rw f)) (h f)
-    go false f q = rw (q, unframed_number b c (e ∙ rw f))
+unframed_reply b c e f = rw (unframed_number b c (e ∙ rw f)) refl
 
 -- ---- the two ends of a call
-module _ (b : Book) (c : Call) (a : Answer) (tells : told a ≡ plain (reply_number b c)) where
-  -- refused: the answer as it was found, and the book as it came
-  pub refuses : is_done a ≡ false → outcome_of (record { answer = a; desk = b.desk }) b.inbox b.outbox b.history ≡ answer b c
-  unfolding answer
-  refuses d =
-      let n : reply_number b c ≢ 0 = refused-number a (reply_number b c) tells d in
-      rw (
-        not_done (reply_number b c) (told (done_answer (view b) c)) (plain (reply_number b c)) n,
-        not_done (reply_number b c) (pieces_of (view b) c) [] n,
-        not_done (reply_number b c) (done c b) b n,
-        tells,
-      )
+-- refused: the answer as it was found, and the book as it came
+pub refuses : (b : Book) (c : Call) (why : Refusal) → told (Err why) ≡ plain (reply_number b c) → outcome_of (Err why) b ≡ answer b c
+unfolding told answer
+refuses b c why tells =
+    let n : reply_number b c ≢ 0 = λ z. omega (arith, refusal_number why, ap (λ (x : Reply). x.number) tells) in
+    rw (
+      not_done (reply_number b c) (told (Ok (done_answer (view b) c))) (plain (reply_number b c)) n,
+      not_done (reply_number b c) (pieces_of (view b) c) [] n,
+      not_done (reply_number b c) (done c b) b n,
+      tells,
+    )
 
-  -- not refused: accepted
-  pub accepts : is_done a ≡ true → Accepted b c
-  accepts d = by_number b c (done-number a (reply_number b c) tells d)
+-- not refused: accepted
+pub accepts : (b : Book) (c : Call) → told (Ok Done.Plain) ≡ plain (reply_number b c) → Accepted b c
+unfolding told
+accepts b c tells = by_number b c (sym (ap (λ (x : Reply). x.number) tells))
 
 -- done: the answer of a done call, and the effect laid
-pub lays : (b : Book) (c : Call) → Accepted b c → (a : Answer) (d : Desk) (i o h : List ℕ) → told a ≡ told (done_answer (view b) c) → pieces_of (view b) c ≡ []
-    → book_of d i o h ≡ done c b → outcome_of (record { answer = a; desk = d }) i o h ≡ answer b c
+pub lays : (b : Book) (c : Call) → Accepted b c → (a : Answer) (left : Book) → told a ≡ told (Ok (done_answer (view b) c)) → pieces_of (view b) c ≡ []
+    → left ≡ done c b → outcome_of a left ≡ answer b c
 unfolding answer
-lays b c y a d i o h p q l = rw (accepted-number b c y, p, q, ← l)
+lays b c y a left p q l = rw (accepted-number b c y, p, q, ← l)
+
+-- a call that leaves the book as it is, whatever it is told
+pub says : (b : Book) (c : Call) (r : Result (Unit {0}) Refusal) → told (plainly r) ≡ plain (reply_number b c) → told (Ok (done_answer (view b) c)) ≡ plain 0
+    → pieces_of (view b) c ≡ [] → b ≡ done c b → outcome_of (plainly r) b ≡ answer b c
+says b c (Err why) tells p q l = refuses b c why tells
+says b c (Ok u) tells p q l = lays b c (accepts b c tells) (Ok Done.Plain) b (tells ∙ ap plain (accepted-number b c (accepts b c tells)) ∙ sym p) q l
 
 -- ---- what is laid back into the history: one row more
 pub record_added : (b : Book) → Framed b → (r : Record) → b.desk.counts.records < history_rows
     → lay record_shape (history_of b ++ (r ∷ [])) b.desk.counts.records b.history ≡ put_at (b.desk.counts.records * record_shape.width) (record_shape.flat r) b.history
 record_added b f r h = row_added record_shape record_sound b.desk.counts.records b.history r (omega arith)
-
--- done, for a call whose answer is a bare Done: the answer that was found is that
-pub lays-plain : (b : Book) (c : Call) → Accepted b c → (a : Answer) → told a ≡ plain (reply_number b c) → told (done_answer (view b) c) ≡ plain 0 → pieces_of (view b) c ≡ []
-    → (d : Desk) (i o h : List ℕ) → book_of d i o h ≡ done c b → outcome_of (record { answer = a; desk = d }) i o h ≡ answer b c
-lays-plain b c y a p q r d i o h l = lays b c y a d i o h (p ∙ ap plain (accepted-number b c y) ∙ sym q) r l
 
 -- ---- no sum can wrap
 -- no balance is above the ceiling where none of the list is

@@ -1,28 +1,27 @@
 -- The chain of refusals: for a table whose numbers rise, the code's chain of tests tells the smallest number that applies.
+use Rattle.std.specs.Prelude.{Result, Ok, Err}
 use Prim.Native.Nat.{ℕ, zero, suc, ◌≤◌}
-use mathlib.Core.Path.{◌≡◌, refl, sym, ap}
+use mathlib.Core.Path.{◌≡◌, refl, ap}
 use mathlib.Core.Logic.{◌≢◌}
 use mathlib.Core.Bool.{Bool, true, false, not, ◌&&◌, cond}
 use mathlib.Core.List.{List, [], ◌∷◌, map}
 use native.Mathlib.Omega.{arith}
 use lib.Dec.{leb}
 use Rattle.rules.specs.declared.answers.Refusal.{Refusal}
-use Rattle.rules.specs.declared.answers.Answer.{Answer}
 use Rattle.rules.specs.Lists.{all}
-use Rattle.rules.specs.Replies.{Reply, told_refusal, number_of, told, refuse, smaller, smallest, plain}
+use Rattle.rules.specs.Replies.{told_refusal, number_of, told, plainly, refuse, smaller, smallest, plain}
 use borrow.Author.Tests.{leb-true}
 use Rattle.rules.proofs.Tests.{both}
-use Rattle.rules.proofs.Told.{refusal_number, Telling, telling}
-use Rattle.desk.specs.Parts.{is_done}
+use Rattle.rules.proofs.Told.{Telling, telling}
 
 -- an entry of a chain: the refusal, and whether it applies
 abbrev pub Entry : Type 0
 Entry = Refusal × Bool
 
 -- the chain as the code builds it
-abbrev pub chain : List Entry → Answer
-chain [] = Answer.Done
-chain (e ∷ es) = cond e.1 (Answer.Refused e.0) (chain es)
+abbrev pub chain : List Entry → Result (Unit {0}) Refusal
+chain [] = Ok tt
+chain (e ∷ es) = cond e.1 (Err e.0) (chain es)
 
 -- the table of numbers that it stands for
 abbrev pub entry : Entry → ℕ × Bool
@@ -69,7 +68,7 @@ unfolding told_refusal
 told_alone (Telling.field k) h = absurd (omega arith)
 told_alone (Telling.alone e) h = e
 
-pub chain-told : (es : List Entry) → rising es ≡ true → told (chain es) ≡ plain (smallest (map entry es))
+pub chain-told : (es : List Entry) → rising es ≡ true → told (plainly (chain es)) ≡ plain (smallest (map entry es))
 unfolding told smallest
 chain-told [] h = refl
 chain-told (e ∷ es) h =
@@ -77,25 +76,10 @@ chain-told (e ∷ es) h =
     let (least, rises) = both (not_below (number_of e.0) es) (rising es) later in
     go above least e.1 refl (chain-told es rises)
   where
-    go : leb 2 (number_of e.0) ≡ true → not_below (number_of e.0) es ≡ true → (t : Bool) → e.1 ≡ t → told (chain es) ≡ plain (smallest (map entry es))
-        → told (cond e.1 (Answer.Refused e.0) (chain es)) ≡ plain (cond e.1 (smaller (number_of e.0) (smallest (map entry es))) (smallest (map entry es)))
+    go : leb 2 (number_of e.0) ≡ true → not_below (number_of e.0) es ≡ true → (t : Bool) → e.1 ≡ t → told (plainly (chain es)) ≡ plain (smallest (map entry es))
+        → told (plainly (cond e.1 (Err e.0) (chain es))) ≡ plain (cond e.1 (smaller (number_of e.0) (smallest (map entry es))) (smallest (map entry es)))
     go above least true p ih = rw (p, smaller-first (number_of e.0) (smallest (map entry es)) (smallest_least (number_of e.0) es least)) (told_alone (telling e.0) (leb-true 2 (number_of e.0) above))
     go above least false p ih = rw p ih
-
--- what is done was not refused, and what was refused was not done
-pub done-number : (a : Answer) (n : ℕ) → told a ≡ plain n → is_done a ≡ true → n ≡ 0
-unfolding told
-done-number Answer.Done n e d = sym (ap (λ (r : Reply). r.number) e)
-done-number (Answer.Sent p) n e d = sym (ap (λ (r : Reply). r.number) e)
-done-number (Answer.Traced k) n e d = sym (ap (λ (r : Reply). r.number) e)
-done-number (Answer.Refused r) n e d = absurd (mathlib.Core.Bool.false≢true d)
-
-pub refused-number : (a : Answer) (n : ℕ) → told a ≡ plain n → is_done a ≡ false → n ≢ 0
-unfolding told
-refused-number Answer.Done n e d = absurd (mathlib.Core.Bool.true≢false d)
-refused-number (Answer.Sent p) n e d = absurd (mathlib.Core.Bool.true≢false d)
-refused-number (Answer.Traced k) n e d = absurd (mathlib.Core.Bool.true≢false d)
-refused-number (Answer.Refused r) n e d = λ z. omega (arith, refusal_number r, ap (λ (r : Reply). r.number) e)
 
 -- out of frame comes first: what the other tests say of such a book is no matter
 pub chain-frame : (f : Bool) (es gs : List Entry) → (f ≡ true → es ≡ gs) → chain ((Refusal.BadBook, not f) ∷ es) ≡ chain ((Refusal.BadBook, not f) ∷ gs)

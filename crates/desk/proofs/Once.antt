@@ -2,11 +2,6 @@
 use Rattle.rules.specs.Coincide.{Coincide}
 use Rattle.rules.proofs.Coincide.{value, first}
 use Rattle.desk.specs.contracts.answers.refuse as refuse
-use Rattle.desk.specs.contracts.answers.is_done as is-done
-use Rattle.desk.specs.contracts.entries.claim_record as claim-record
-use Rattle.desk.specs.contracts.entries.transfer_record as transfer-record
-use Rattle.desk.specs.contracts.entries.withdrawal_record as withdrawal-record
-use Rattle.desk.specs.contracts.entries.grant_record as grant-record
 use Rattle.desk.specs.contracts.fields.is_within as is_within
 use Rattle.desk.specs.contracts.fields.is_member as is_member
 use Rattle.desk.specs.contracts.fields.is_asset as is-asset
@@ -20,21 +15,6 @@ use Rattle.desk.specs.contracts.keep.set_of_eight as set-of-eight
 
 pub refuse_once : Coincide refuse.ended (λ M 𝓤 𝓛. refuse.clauses 𝓛)
 refuse_once w x g = value w
-
-pub is_done_once : Coincide is-done.ended (λ M 𝓤 𝓛. is-done.clauses 𝓛)
-is_done_once w x g = value w
-
-pub claim_record_once : Coincide claim-record.ended (λ M 𝓤 𝓛. claim-record.clauses 𝓛)
-claim_record_once w x g = value w
-
-pub transfer_record_once : Coincide transfer-record.ended (λ M 𝓤 𝓛. transfer-record.clauses 𝓛)
-transfer_record_once w x g = value w
-
-pub withdrawal_record_once : Coincide withdrawal-record.ended (λ M 𝓤 𝓛. withdrawal-record.clauses 𝓛)
-withdrawal_record_once w x g = value w
-
-pub grant_record_once : Coincide grant-record.ended (λ M 𝓤 𝓛. grant-record.clauses 𝓛)
-grant_record_once w x g = value w
 
 pub is_within_once : Coincide is_within.ended (λ M 𝓤 𝓛. is_within.clauses 𝓛)
 is_within_once w x g = value w

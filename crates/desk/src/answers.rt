@@ -1,24 +1,12 @@
-// The chain of refusals: tested from the last number to the first, the smallest number stands.
-ghost use Rattle.std.specs.Prelude.{◌≡◌, cond};
-ghost use Rattle.desk.specs.Parts.{is_done};
+// A refusal, where it applies.
+ghost use Rattle.std.specs.Prelude.{◌≡◌, cond, Ok, Err};
 
-use rules::answers::{Answer, Refusal};
+use rules::answers::Refusal;
 
-// This refusal where it applies, and else what the refusals with larger numbers came to.
-pub fn refuse(applies: bool, why: Refusal, rest: Answer) -> Answer
-    ensures { result ≡ cond applies (Answer.Refused why) rest }
+// A call's table of refusals asks these one after the other, the smallest number first: the first that applies
+// stands.
+pub fn refuse(applies: bool, why: Refusal) -> Result<(), Refusal>
+    ensures { result ≡ cond applies (Err why) (Ok tt) }
 {
-    if applies { Answer::Refused(why) } else { rest }
-}
-
-// Whether nothing was refused.
-pub fn is_done(a: Answer) -> bool
-    ensures { result ≡ is_done a }
-{
-    match a {
-        Answer::Done => true,
-        Answer::Sent(_) => true,
-        Answer::Traced(_) => true,
-        Answer::Refused(_) => false,
-    }
+    if applies { Err(why) } else { Ok(()) }
 }

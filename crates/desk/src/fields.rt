@@ -1,7 +1,7 @@
 // The tests on fields, and what a desk keeps under a field's number.
-ghost use Rattle.std.specs.Prelude.{◌≡◌};
+ghost use Rattle.std.specs.Prelude.{◌≡◌, ◌-◌, ◌<◌, ◌&&◌, cond, Some, None, MatchOption, ⊤};
 ghost use Rattle.rules.specs.Limits.{within, is_member, is_asset, is_domain, is_amount, is_payee};
-ghost use Rattle.rules.specs.Effects.{balance};
+ghost use Rattle.rules.specs.Effects.{balance, cell};
 ghost use Rattle.desk.specs.Parts.{of_eight};
 
 use rules::limits::{ASSETS, CEILING, DOMAINS, HIGHEST_PAYEE, MEMBERS};
@@ -9,7 +9,7 @@ use rules::limits::{ASSETS, CEILING, DOMAINS, HIGHEST_PAYEE, MEMBERS};
 pub fn is_within(lo: u64, hi: u64, x: u64) -> bool
     ensures { result ≡ within lo hi x }
 {
-    (lo <= x) & (x <= hi)
+    lo <= x && x <= hi
 }
 
 pub fn is_member(m: u64) -> bool
@@ -42,26 +42,41 @@ pub fn is_payee(p: u64) -> bool
     is_within(1, HIGHEST_PAYEE, p)
 }
 
+// Where a member's balance in an asset lies among the balances, if there is one.
+pub(crate) fn cell(m: u64, a: u64) -> Option<usize>
+    ensures is_cell { result ≡ cond (is_member m && is_asset a) (Some (cell m a)) None }
+    ensures has_balance { MatchOption result ⊤ (λ at. at < 128) }
+{
+    if is_member(m) && is_asset(a) {
+        Some(((m - 1) * ASSETS + (a - 1)) as usize)
+    } else {
+        None
+    }
+}
+
+// Where the one for number i lies among eight numbers, one for each asset or each domain, if there is one.
+pub(crate) fn place(i: u64) -> Option<usize>
+    ensures is_place { result ≡ cond (within 1 8 i) (Some (i - 1)) None }
+    ensures has_number { MatchOption result ⊤ (λ at. at < 8) }
+{
+    if is_within(1, 8, i) {
+        Some((i - 1) as usize)
+    } else {
+        None
+    }
+}
+
 // A member's balance in an asset.
+#[tactic(auto, unfolding(rules::specs::Effects::balance))]
 pub fn balance_of(balances: &[u64; 128], m: u64, a: u64) -> u64
     ensures { result ≡ balance balances.now m a }
 {
-    if is_member(m) & is_asset(a) {
-        let at = ((m - 1) * ASSETS + (a - 1)) as usize;
-        balances[at]
-    } else {
-        0
-    }
+    cell(m, a).map_or(0, |at| balances[at])
 }
 
 // Of eight numbers, one for each asset or each domain, the one for number i.
 pub fn of_eight(xs: &[u64; 8], i: u64) -> u64
     ensures { result ≡ of_eight xs.now i }
 {
-    if is_within(1, 8, i) {
-        let at = (i - 1) as usize;
-        xs[at]
-    } else {
-        0
-    }
+    place(i).map_or(0, |at| xs[at])
 }

@@ -2,14 +2,12 @@
 ghost use Rattle.std.specs.Prelude.{◌≡◌};
 ghost use Rattle.desk.specs.Kept.{balance_set, eight_set};
 
-use crate::fields::{is_asset, is_member, is_within};
-use rules::limits::ASSETS;
+use crate::fields::{cell, place};
 
 pub fn set_balance(balances: &mut [u64; 128], m: u64, a: u64, x: u64)
     ensures { balances.new ≡ balance_set balances.old m a x }
 {
-    if is_member(m) & is_asset(a) {
-        let at = ((m - 1) * ASSETS + (a - 1)) as usize;
+    if let Some(at) = cell(m, a) {
         balances[at] = x;
     }
 }
@@ -18,8 +16,7 @@ pub fn set_balance(balances: &mut [u64; 128], m: u64, a: u64, x: u64)
 pub fn set_of_eight(xs: &mut [u64; 8], i: u64, x: u64)
     ensures { xs.new ≡ eight_set xs.old i x }
 {
-    if is_within(1, 8, i) {
-        let at = (i - 1) as usize;
+    if let Some(at) = place(i) {
         xs[at] = x;
     }
 }

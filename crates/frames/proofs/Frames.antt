@@ -1,23 +1,22 @@
 -- The frame test by its parts: the loops over the inbox and the outbox, and the parts together.
 use Prim.Native.Nat.{ℕ, ◌+◌, ◌-◌, ◌*◌, ◌≤◌, ◌<◌}
 use mathlib.Core.Path.{◌≡◌, refl, sym, ap, ◌∙◌}
-use mathlib.Core.Bool.{Bool, true, false, ◌&&◌, and_assoc, and_comm, and-true, and-false}
+use mathlib.Core.Bool.{Bool, false, ◌&&◌, and_assoc, and_comm, and-true, and-false}
 use mathlib.Core.List.{List, [], ◌∷◌}
-use lib.Dec.{leb, ltb, eqb, lit<}
-use lib.ListN.{length, get_or, take-append-drop}
-use borrow.Author.Tests.{eq-eqb, ne_eqb, le-leb, lt-leb}
+use lib.Dec.{leb, ltb, eqb}
+use lib.ListN.{length, take-append-drop}
+use borrow.Author.Tests.{le-leb, lt-leb}
 use Rattle.rules.specs.declared.rows.Deposit.{Deposit}
 use Rattle.rules.specs.declared.rows.Payment.{Payment}
-use Rattle.rules.specs.Limits.{inbox_rows, outbox_rows, is_member, is_asset, is_amount, is_payee}
+use Rattle.rules.specs.Limits.{inbox_rows, outbox_rows}
 use Rattle.rules.specs.Lists.{all, ands}
 use Rattle.rules.specs.Tables.{rows_of, deposit_shape, payment_shape}
 use Rattle.rules.specs.State.{Book, view, outbox_of}
 use Rattle.rules.specs.Frame.{deposit_in_limits, payment_in_limits, numbers_rise, nonces_from, nonces_rise, in_frame}
 use Rattle.rules.proofs.Laying.{length-rows}
-use Rattle.tables.specs.Rows.{row_at}
-use Rattle.tables.proofs.Rest.{passes, rest, rest_all, passes_fails, passes_goes, passes_end, cell, cell0}
+use Rattle.tables.proofs.Rest.{passes, rest, rest_all}
 use Rattle.frames.specs.Parts.{inbox_frame, outbox_frame, lists_frame, counts_frame}
-use Rattle.frames.proofs.Laws.{two_by_two, and-left_comm}
+use Rattle.frames.proofs.Laws.{inside, two_by_two, and-left_comm}
 
 -- ---- the inbox
 -- a deposit against the number before it
@@ -40,34 +39,9 @@ module _ (t : List ℕ) (n last : ℕ) where
   abbrev pub InboxFrom : ℕ → ℕ → Type 0
   InboxFrom before i = inbox_frame t n last ≡ passes (deposit_test last) deposit_next before (rest deposit_shape n i t)
 
-  pub inbox-size : (length t ≡ inbox_rows * deposit_shape.width → ⊥) → false ≡ inbox_frame t n last
-  unfolding inbox_frame
-  inbox-size h = rw (ne_eqb _ _ h)
-
-  pub inbox-count : inbox_rows < n → length t ≡ inbox_rows * deposit_shape.width → false ≡ inbox_frame t n last
-  unfolding inbox_frame
-  inbox-count h e = rw (eq-eqb _ _ e, lt-leb _ _ h)
-
   pub inbox-none : length t ≡ inbox_rows * deposit_shape.width → n ≤ inbox_rows → InboxFrom 0 0
   unfolding inbox_frame
-  inbox-none e h = rw (eq-eqb _ _ e, le-leb _ _ h, rest_all deposit_shape n t) (deposits_pass last 0 (rows_of deposit_shape n t))
-
-  -- the test of row i, on the table's numbers
-  pub inbox-row : (before i : ℕ)
-      → deposit_test last before (row_at deposit_shape i t)
-      ≡ (is_member (get_or t (i * deposit_shape.width + 3) 0) && (is_asset (get_or t (i * deposit_shape.width + 1) 0) && is_amount (get_or t (i * deposit_shape.width + 2) 0))) && (ltb before (get_or t (i * deposit_shape.width) 0) && leb (get_or t (i * deposit_shape.width) 0) last)
-  inbox-row before i = rw (cell0 deposit_shape.width i t (lit< tt), cell deposit_shape.width i 1 t (lit< tt), cell deposit_shape.width i 2 t (lit< tt), cell deposit_shape.width i 3 t (lit< tt))
-
-  pub inbox_fails : (before i : ℕ) → i < n → InboxFrom before i → deposit_test last before (row_at deposit_shape i t) ≡ false → false ≡ inbox_frame t n last
-  inbox_fails before i h f e = sym (f ∙ passes_fails deposit_shape (deposit_test last) deposit_next n before i t h e)
-
-  pub inbox_goes : (before i : ℕ) → i < n → InboxFrom before i → deposit_test last before (row_at deposit_shape i t) ≡ true → InboxFrom (get_or t (i * deposit_shape.width) 0) (i + 1)
-  inbox_goes before i h f e =
-      f ∙ passes_goes deposit_shape (deposit_test last) deposit_next n before i t h e
-      ∙ ap (λ (k : ℕ). passes (deposit_test last) deposit_next k (rest deposit_shape n (i + 1) t)) (cell0 deposit_shape.width i t (lit< tt))
-
-  pub inbox_end : (before i : ℕ) → n ≤ i → InboxFrom before i → true ≡ inbox_frame t n last
-  inbox_end before i h f = sym (f ∙ passes_end deposit_shape (deposit_test last) deposit_next n before i t h)
+  inbox-none e h = inside _ _ _ _ _ e h ∙ rw (rest_all deposit_shape n t) (deposits_pass last 0 (rows_of deposit_shape n t))
 
 -- ---- the outbox
 abbrev pub payment_test : ℕ → Payment → Bool
@@ -87,36 +61,14 @@ module _ (t : List ℕ) (n next : ℕ) where
   abbrev pub OutboxFrom : ℕ → ℕ → Type 0
   OutboxFrom due i = outbox_frame t n next ≡ passes payment_test payment_next due (rest payment_shape n i t)
 
-  pub outbox-size : (length t ≡ outbox_rows * payment_shape.width → ⊥) → false ≡ outbox_frame t n next
-  unfolding outbox_frame
-  outbox-size h = rw (ne_eqb _ _ h)
-
-  pub outbox-count : outbox_rows < n → length t ≡ outbox_rows * payment_shape.width → false ≡ outbox_frame t n next
-  unfolding outbox_frame
-  outbox-count h e = rw (eq-eqb _ _ e, lt-leb _ _ h)
-
   pub outbox-before : next < n → length t ≡ outbox_rows * payment_shape.width → n ≤ outbox_rows → false ≡ outbox_frame t n next
   unfolding outbox_frame nonces_rise
-  outbox-before h e f = rw (eq-eqb _ _ e, le-leb _ _ f, length-rows payment_shape n t, lt-leb _ _ h, and-false)
+  outbox-before h e f = sym (inside _ _ _ _ _ e f ∙ rw (length-rows payment_shape n t, lt-leb _ _ h, and-false))
 
   pub outbox-none : length t ≡ outbox_rows * payment_shape.width → n ≤ outbox_rows → n ≤ next → OutboxFrom (next - n) 0
   unfolding outbox_frame nonces_rise
-  outbox-none e h f =
-      rw (eq-eqb _ _ e, le-leb _ _ h, length-rows payment_shape n t, le-leb _ _ f, rest_all payment_shape n t) (payments_pass (next - n) (rows_of payment_shape n t))
-
-  pub outbox-row : (due i : ℕ)
-      → payment_test due (row_at payment_shape i t)
-      ≡ (is_asset (get_or t (i * payment_shape.width) 0) && (is_amount (get_or t (i * payment_shape.width + 1) 0) && is_payee (get_or t (i * payment_shape.width + 2) 0))) && eqb (get_or t (i * payment_shape.width + 3) 0) due
-  outbox-row due i = rw (cell0 payment_shape.width i t (lit< tt), cell payment_shape.width i 1 t (lit< tt), cell payment_shape.width i 2 t (lit< tt), cell payment_shape.width i 3 t (lit< tt))
-
-  pub outbox_fails : (due i : ℕ) → i < n → OutboxFrom due i → payment_test due (row_at payment_shape i t) ≡ false → false ≡ outbox_frame t n next
-  outbox_fails due i h f e = sym (f ∙ passes_fails payment_shape payment_test payment_next n due i t h e)
-
-  pub outbox_goes : (due i : ℕ) → i < n → OutboxFrom due i → payment_test due (row_at payment_shape i t) ≡ true → OutboxFrom (due + 1) (i + 1)
-  outbox_goes due i h f e = f ∙ passes_goes payment_shape payment_test payment_next n due i t h e
-
-  pub outbox_end : (due i : ℕ) → n ≤ i → OutboxFrom due i → true ≡ outbox_frame t n next
-  outbox_end due i h f = sym (f ∙ passes_end payment_shape payment_test payment_next n due i t h)
+  outbox-none e f h =
+      inside _ _ _ _ _ e f ∙ rw (length-rows payment_shape n t, le-leb _ _ h, rest_all payment_shape n t) (payments_pass (next - n) (rows_of payment_shape n t))
 
 -- ---- the parts together
 regroup : (c1 c2 c3 c4 c5 c6 c7 c8 c9 c10 c11 c12 c13 c14 c15 c16 c17 : Bool)

@@ -1,3 +1,4 @@
 pub mod Laws
+pub mod Eights
 pub mod Frames
 pub mod Once

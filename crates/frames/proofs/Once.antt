@@ -2,10 +2,6 @@
 use Rattle.rules.specs.Coincide.{Coincide}
 use Rattle.rules.proofs.Coincide.{value}
 use Rattle.frames.specs.contracts.in_frame as in_frame
-use Rattle.frames.specs.contracts.framed as framed
 
 pub in_frame_once : Coincide in_frame.ended (λ M 𝓤 𝓛. in_frame.clauses 𝓛)
 in_frame_once w x g = value w
-
-pub framed_once : Coincide framed.ended (λ M 𝓤 𝓛. framed.clauses 𝓛)
-framed_once w x g = value w

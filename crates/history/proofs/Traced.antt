@@ -1,39 +1,66 @@
 -- The two ends of a trace: the number that it gives, and what it hands out and leaves where nothing is refused.
-use Prim.Native.Nat.{ℕ, ◌≤◌}
-use mathlib.Core.Path.{◌≡◌, refl, sym, ◌∙◌}
+use Rattle.std.specs.Prelude.{Result, Ok, Err}
+use Prim.Native.Nat.{ℕ, ◌-◌, ◌≤◌, ◌<◌}
+use mathlib.Core.Path.{◌≡◌, refl, sym, ap, ◌∙◌}
 use mathlib.Core.Logic.{◌≢◌}
 use mathlib.Core.Bool.{Bool, true, false, not, ◌||◌, cond}
 use mathlib.Core.List.{List, [], ◌∷◌}
 use native.Mathlib.Omega.{arith}
-use lib.Dec.{leb, ltb}
-use lib.ListN.{length, replicate}
-use borrow.Author.Tests.{leb-false, ltb-false}
+use lib.Dec.{leb, ltb, eqb}
+use lib.ListN.{length, replicate, length-append, length-replicate}
+use borrow.Author.Tests.{leb-true, leb-false, le-leb, lt-leb, ltb-false, ne_eqb}
 use Rattle.rules.specs.declared.rows.Nonce.{Nonce}
 use Rattle.rules.specs.declared.rows.Lot.{Lot}
+use Rattle.rules.specs.declared.rows.Record.{Record}
 use Rattle.rules.specs.declared.answers.Refusal.{Refusal}
-use Rattle.rules.specs.declared.answers.Answer.{Answer}
+use Rattle.rules.specs.declared.answers.Done.{Done}
 use Rattle.rules.specs.Limits.{history_rows}
-use Rattle.rules.specs.Lists.{all}
+use Rattle.rules.specs.Lists.{all, those}
 use Rattle.rules.specs.Tables.{rows_of, record_shape}
 use Rattle.rules.specs.State.{State, Book, view, history_of}
-use Rattle.rules.specs.Replies.{told_refusal, told, plain, smallest}
+use Rattle.rules.specs.Replies.{Reply, told_refusal, told, plainly, plain, smallest}
 use Rattle.rules.specs.Refusals.{trace_refusals}
 use Rattle.rules.specs.Frame.{in_frame}
-use Rattle.rules.specs.History.{history_in_frame, withdrawals}
+use Rattle.rules.specs.History.{history_in_frame, is_withdrawal, withdrawals}
 use Rattle.rules.specs.Lots.{no_lot, pieces}
 use Rattle.rules.specs.Answer.{bad_history, in_front, trace_number, trace_answer}
 use Rattle.rules.proofs.Laying.{length-rows}
 use Rattle.rules.proofs.Tests.{neither, not-holds, twice_not, all-at, none-applies}
+use Rattle.rules.proofs.Told.{refusal_number}
 use Rattle.rules.proofs.Accepts.{not_done}
-use Rattle.desk.specs.Parts.{is_done}
-use Rattle.desk.proofs.Chains.{Entry, chain, not_below, chain-told, done-number, refused-number}
 use Rattle.rules.proofs.Books.{Framed, framed}
-use Rattle.lots.specs.Traces.{before_payment}
+use Rattle.desk.proofs.Chains.{Entry, chain, not_below, chain-told}
+use Rattle.lots.specs.Traces.{before_payment, after_payment, nth_withdrawal}
+use Rattle.lots.proofs.TraceLaws.{payment-at}
 use Rattle.records.specs.Test.{history_frame}
-use Rattle.history.specs.Tracing.{trace_outcome_of, history_refusals, trace_number_for}
-use Rattle.replays.specs.Replaying.{CanTrace, Traces}
 use Rattle.records.proofs.Counting.{history-whole}
-use Rattle.replays.proofs.Payments.{no_payment_lem}
+use Rattle.replays.specs.Replaying.{CanTrace, Traces}
+use Rattle.history.specs.Tracing.{trace_outcome_of, history_refusals, trace_number_for}
+
+-- ---- whether there is such a payment
+-- where there are no more withdrawals than n, all records come before it
+all-before : (n : ℕ) (h : List Record) → withdrawals h ≤ n → before_payment n h ≡ h
+unfolding withdrawals those before_payment
+all-before n [] l = refl
+all-before n (r ∷ rs) l = go (is_withdrawal r) l (all-before n rs) (all-before (n - 1) rs)
+  where
+    go : (p : Bool) → length (cond p (r ∷ those is_withdrawal rs) (those is_withdrawal rs)) ≤ n
+        → (withdrawals rs ≤ n → before_payment n rs ≡ rs) → (withdrawals rs ≤ n - 1 → before_payment (n - 1) rs ≡ rs)
+        → cond p (cond (eqb n 0) [] (r ∷ before_payment (n - 1) rs)) (r ∷ before_payment n rs) ≡ r ∷ rs
+    go true l here next = rw (ne_eqb n 0 (λ z. omega arith)) (ap (λ (k : List Record). r ∷ k) (next (omega arith)))
+    go false l here next = ap (λ (k : List Record). r ∷ k) (here l)
+
+-- where there are more, not all do
+some_after : (n : ℕ) (h : List Record) → n < withdrawals h → length (before_payment n h) < length h
+some_after n h l =
+    omega (arith, ap length (payment-at n h l).whole ∙ length-append (before_payment n h) (nth_withdrawal n h ∷ after_payment n h))
+
+pub no_payment_lem : (n : ℕ) (h : List Record) → leb (length h) (length (before_payment n h)) ≡ leb (withdrawals h) n
+no_payment_lem n h = go (leb (withdrawals h) n) refl
+  where
+    go : (p : Bool) → leb (withdrawals h) n ≡ p → leb (length h) (length (before_payment n h)) ≡ p
+    go true e = le-leb (length h) (length (before_payment n h)) (omega (arith, ap length (all-before n h (leb-true (withdrawals h) n e))))
+    go false e = lt-leb (length h) (length (before_payment n h)) (some_after n h (leb-false (withdrawals h) n e))
 
 -- ---- the table of refusals
 abbrev pub trace_entries : Bool → ℕ → ℕ → ℕ → ℕ → List Entry
@@ -43,79 +70,82 @@ trace_entries isHistory records rows places at =
     ∷ (Refusal.NoSuchPayment, leb records at)
     ∷ []
 
-pub history-told : (history : List ℕ) (records rows places : ℕ) (n : Nonce) (s : State) → s.history ≡ rows_of record_shape records history
-    → told (chain (trace_entries (history_frame history records) records rows places (length (before_payment n.0 (rows_of record_shape records history)))))
-    ≡ plain (smallest (history_refusals history records rows places s n))
+pub history_told : (history : List ℕ) (records rows places : ℕ) (n : Nonce) (s : State) (r : Result (Unit {0}) Refusal) → s.history ≡ rows_of record_shape records history
+    → r ≡ chain (trace_entries (history_frame history records) records rows places (length (before_payment n.0 (rows_of record_shape records history))))
+    → told (plainly r) ≡ plain (smallest (history_refusals history records rows places s n))
 unfolding trace_refusals told_refusal not_below all
-history-told history records rows places n s e =
-    rw (e, ← no_payment_lem n.0 (rows_of record_shape records history), length-rows record_shape records history)
+history_told history records rows places n s r e p =
+    rw (p, e, ← no_payment_lem n.0 (rows_of record_shape records history), length-rows record_shape records history)
     (chain-told (trace_entries (history_frame history records) records rows places (length (before_payment n.0 (rows_of record_shape records history)))) refl)
 
 -- behind the frame's test it tells the number that the rules give
-pub trace-told : (b : Book) (rows places : ℕ) (n : Nonce) (a found : Answer)
-    → told found ≡ plain (smallest (history_refusals b.history b.desk.counts.records rows places (view b) n))
-    → a ≡ cond (not (in_frame b)) (Answer.Refused Refusal.BadBook) found → told a ≡ plain (trace_number_for b rows places n)
-unfolding trace_number_for trace_refusals told_refusal not_below all
-trace-told b rows places n a found h p = go (in_frame b) refl p
-  where
-    go : (t : Bool) → in_frame b ≡ t → a ≡ cond (not t) (Answer.Refused Refusal.BadBook) found → told a ≡ plain (trace_number_for b rows places n)
-    go true f q = rw (q, f, ← history-whole b f) h
-    go false f q = rw (q, f) (chain-told ((Refusal.BadBook, true) ∷ (Refusal.TableSmall, _) ∷ (Refusal.NoSuchPayment, _) ∷ []) refl)
+pub trace_met : (b : Book) (rows places : ℕ) (n : Nonce) (r : Result (Unit {0}) Refusal) → in_frame b ≡ true
+    → ((s : State) → s.history ≡ rows_of record_shape b.desk.counts.records b.history → told (plainly r) ≡ plain (smallest (history_refusals b.history b.desk.counts.records rows places s n)))
+    → told (plainly r) ≡ plain (trace_number_for b rows places n)
+unfolding trace_number_for trace_refusals view
+trace_met b rows places n r f h = h (view b) refl ∙ rw (f, history-whole b f)
+
+pub trace_unmet : (b : Book) (rows places : ℕ) (n : Nonce) → in_frame b ≡ false → told (Err Refusal.BadBook) ≡ plain (trace_number_for b rows places n)
+unfolding trace_number_for trace_refusals told_refusal told not_below all
+trace_unmet b rows places n f = rw f (chain-told ((Refusal.BadBook, true) ∷ (Refusal.TableSmall, _) ∷ (Refusal.NoSuchPayment, _) ∷ []) refl)
 
 -- ---- the two ends
-module _ (b : Book) (work out : List Lot) (n : Nonce) (a : Answer) (tells : told a ≡ plain (trace_number_for b (length work) (length out) n)) where
+module _ (b : Book) (work out : List Lot) (n : Nonce) where
   -- the same number
   number_is : trace_number_for b (length work) (length out) n ≡ trace_number b work out n
   unfolding trace_number_for trace_number
   number_is = refl
 
   -- refused: both tables as they came
-  pub trace-refused : is_done a ≡ false → trace_outcome_of a work out ≡ trace_answer b work out n
-  unfolding trace_answer
-  trace-refused d =
+  pub trace_refused : (why : Refusal) → told (Err why) ≡ plain (trace_number_for b (length work) (length out) n)
+      → trace_outcome_of (Err why) work out ≡ trace_answer b work out n
+  unfolding trace_answer told
+  trace_refused why tells =
       let k : ℕ = trace_number b work out n in
-      let no : k ≢ 0 = λ z. refused-number a (trace_number_for b (length work) (length out) n) tells d (number_is ∙ z) in
+      let same : told (Err why) ≡ plain k = tells ∙ ap plain number_is in
+      let no : k ≢ 0 = λ z. omega (arith, refusal_number why, ap (λ (x : Reply). x.number) same) in
       rw (
-        not_done k (told (Answer.Traced (length (pieces (history_of b) n)))) (plain k) no,
+        not_done k (told (Ok (Done.Traced (length (pieces (history_of b) n))))) (plain k) no,
         not_done k (replicate (length work) no_lot) work no,
         not_done k (in_front (pieces (history_of b) n) out) out no,
-        tells,
-        number_is,
+        same,
       )
 
-  done : is_done a ≡ true → trace_number_for b (length work) (length out) n ≡ 0
-  done d = done-number a (trace_number_for b (length work) (length out) n) tells d
+  module _ (tells : told (Ok Done.Plain) ≡ plain (trace_number_for b (length work) (length out) n)) where
+    done : trace_number_for b (length work) (length out) n ≡ 0
+    unfolding told
+    done = sym (ap (λ (x : Reply). x.number) tells)
 
-  -- not refused: the history is one, and it can be traced
-  pub few-records : is_done a ≡ true → b.desk.counts.records ≤ history_rows
-  unfolding trace_number_for trace_refusals view told_refusal all
-  few-records d =
-      let rs : List (ℕ × Bool) = bad_history b ∷ trace_refusals (length work) (length out) (view b) n in
-      let none = none-applies rs refl (done d) in
-      let (u, v) = neither (not (in_frame b)) (not (history_in_frame (history_of b))) (all-at (λ r. not r.1) rs 0 (1, false) refl none) in
-      let f : Framed b = framed b (twice_not (in_frame b) u) in
-      f.records
+    -- not refused: the history is one, and it can be traced
+    pub few_records : b.desk.counts.records ≤ history_rows
+    unfolding trace_number_for trace_refusals view told_refusal all
+    few_records =
+        let rs : List (ℕ × Bool) = bad_history b ∷ trace_refusals (length work) (length out) (view b) n in
+        let none = none-applies rs refl done in
+        let (u, v) = neither (not (in_frame b)) (not (history_in_frame (history_of b))) (all-at (λ r. not r.1) rs 0 (1, false) refl none) in
+        let f : Framed b = framed b (twice_not (in_frame b) u) in
+        f.records
 
-  pub can_trace : is_done a ≡ true → (held : List Lot) → b.desk.counts.records ≤ length held → CanTrace b.history b.desk.counts.records n.0 work held out
-  unfolding trace_number_for trace_refusals view told_refusal all
-  can_trace d held e =
-      let rs : List (ℕ × Bool) = bad_history b ∷ trace_refusals (length work) (length out) (view b) n in
-      let none = none-applies rs refl (done d) in
-      let no : (k : ℕ) → not (lib.ListN.get_or rs k (1, false)).1 ≡ true = λ k. all-at (λ r. not r.1) rs k (1, false) refl none in
-      let (u, v) = neither (not (in_frame b)) (not (history_in_frame (history_of b))) (no 0) in
-      let f : Framed b = framed b (twice_not (in_frame b) u) in
-      let count : length (history_of b) ≡ b.desk.counts.records = length-rows record_shape b.desk.counts.records b.history in
-      let (w, p) = neither (ltb (length work) (length (history_of b))) (ltb (length out) (length (history_of b))) (no 1) in
-      record {
-        few = f.records;
-        room = omega (arith, count, ltb-false (length work) (length (history_of b)) (not-holds (ltb (length work) (length (history_of b))) w));
-        places = omega (arith, count, ltb-false (length out) (length (history_of b)) (not-holds (ltb (length out) (length (history_of b))) p));
-        scratch = e;
-        paid = leb-false (withdrawals (history_of b)) n.0 (not-holds (leb (withdrawals (history_of b)) n.0) (no 2));
-      }
+    pub can_trace : (rows : ℕ) → b.desk.counts.records ≤ rows → CanTrace b.history b.desk.counts.records n.0 work (replicate rows no_lot) out
+    unfolding trace_number_for trace_refusals view told_refusal all
+    can_trace rows e =
+        let rs : List (ℕ × Bool) = bad_history b ∷ trace_refusals (length work) (length out) (view b) n in
+        let none = none-applies rs refl done in
+        let no : (k : ℕ) → not (lib.ListN.get_or rs k (1, false)).1 ≡ true = λ k. all-at (λ r. not r.1) rs k (1, false) refl none in
+        let (u, v) = neither (not (in_frame b)) (not (history_in_frame (history_of b))) (no 0) in
+        let f : Framed b = framed b (twice_not (in_frame b) u) in
+        let count : length (history_of b) ≡ b.desk.counts.records = length-rows record_shape b.desk.counts.records b.history in
+        let (w, p) = neither (ltb (length work) (length (history_of b))) (ltb (length out) (length (history_of b))) (no 1) in
+        record {
+          few = f.records;
+          room = omega (arith, count, ltb-false (length work) (length (history_of b)) (not-holds (ltb (length work) (length (history_of b))) w));
+          places = omega (arith, count, ltb-false (length out) (length (history_of b)) (not-holds (ltb (length out) (length (history_of b))) p));
+          scratch = rw length-replicate e;
+          paid = leb-false (withdrawals (history_of b)) n.0 (not-holds (leb (withdrawals (history_of b)) n.0) (no 2));
+        }
 
-  -- done: what was handed out and left
-  pub trace-done : is_done a ≡ true → (count : ℕ) (cleared laid : List Lot) → Traces b.history b.desk.counts.records n.0 work out count cleared laid
-      → trace_outcome_of (Answer.Traced count) cleared laid ≡ trace_answer b work out n
-  unfolding trace_answer
-  trace-done d count cleared laid t = rw (sym number_is ∙ done d, t.counts, t.clears, t.lays)
+    -- done: what was handed out and left
+    pub trace_done : (count : ℕ) (cleared laid : List Lot) → Traces b.history b.desk.counts.records n.0 work out count cleared laid
+        → trace_outcome_of (Ok (Done.Traced count)) cleared laid ≡ trace_answer b work out n
+    unfolding trace_answer
+    trace_done count cleared laid t = rw (sym number_is ∙ done, t.counts, t.clears, t.lays)

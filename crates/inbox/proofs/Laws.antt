@@ -1,27 +1,31 @@
--- What deposit and claim refuse, as the code's chain; and what a done one lays back.
-use Prim.Native.Nat.{ℕ, zero, suc, ◌+◌, ◌-◌, ◌*◌, ◌≤◌, ◌<◌}
+-- What deposit and claim refuse, as the code's chain; what their calls answer; and what a done one lays back.
+use Rattle.std.specs.Prelude.{Result, Ok}
+use Prim.Native.Nat.{ℕ, zero, suc, ◌-◌, ◌*◌, ◌≤◌, ◌<◌}
 use mathlib.Core.Path.{◌≡◌, refl, sym, ap, ◌∙◌}
-use mathlib.Core.Bool.{Bool, true, false, not, ◌||◌, and-true}
+use mathlib.Core.Bool.{Bool, true, false, not, and-true}
 use mathlib.Core.List.{List, [], ◌∷◌, ◌++◌}
 use native.Mathlib.Nat.{add-zero}
 use native.Mathlib.Omega.{arith}
-use lib.Dec.{leb, ltb, eqb}
+use lib.Dec.{leb, eqb}
 use lib.ListN.{length, take, drop, length-append, length-drop}
 use lib.Seq.{length-take-le}
-use borrow.Author.Tests.{le-leb, lt-ltb, le-ltb, ltb-true, eq-eqb, ne_eqb, eqb-true, eqb-false}
+use borrow.Author.Tests.{le-leb, eq-eqb, ne_eqb, eqb-true, eqb-false}
 use Rattle.rules.specs.declared.rows.Deposit.{Deposit}
 use Rattle.rules.specs.declared.rows.DepositNumber.{DepositNumber}
 use Rattle.rules.specs.declared.calls.Call.{Call}
 use Rattle.rules.specs.declared.calls.ClaimFields.{ClaimFields}
+use Rattle.rules.specs.declared.answers.Done.{Done}
 use Rattle.rules.specs.declared.answers.Refusal.{Refusal}
-use Rattle.rules.specs.Limits.{ceiling, inbox_rows, history_rows, highest_number, is_member, is_asset, is_amount}
+use Rattle.rules.specs.declared.desk.Desk.{Desk}
+use Rattle.rules.specs.Limits.{inbox_rows, history_rows, is_member, is_asset, is_amount}
 use Rattle.rules.specs.Lists.{all, any, same, index_of}
 use Rattle.rules.specs.Tables.{Edit, rows_of, lay, edited, deposit_shape, record_shape}
 use Rattle.rules.specs.State.{State, Book, view, laid, desk_of, inbox_of, history_of}
-use Rattle.rules.specs.Replies.{told_refusal, told, plain, smallest}
+use Rattle.rules.specs.Replies.{told_refusal, told, plainly, plain, smallest}
 use Rattle.rules.specs.Refusals.{table, refusals, full, fulls}
 use Rattle.rules.specs.Effects.{total, matches, deposited, effect, balances_after, holders_after, inbox_edit, outside_after, claim_record, records_of}
-use Rattle.rules.specs.Answer.{done, book_of}
+use Rattle.rules.specs.Frame.{in_frame}
+use Rattle.rules.specs.Answer.{done, answer, frame_test, reply_number, done_answer, pieces_of, outcome_of, book_of}
 use Rattle.rules.proofs.Laying.{length-rows}
 use Rattle.rules.proofs.Shapes.{deposit_sound}
 use Rattle.rules.specs.Facts.{Accepted, DepositFit, ClaimFit}
@@ -31,33 +35,8 @@ use Rattle.tables.proofs.Laid.{row_added, row-taken}
 use Rattle.desk.specs.Parts.{of_eight}
 use Rattle.desk.proofs.Chains.{Entry, chain, not_below, chain-told}
 use Rattle.rules.proofs.Books.{none_found, index_found, Framed, framed, outbox-kept, history-kept, inbox-count, outbox-count, flight_count, history-count}
-use Rattle.desk.proofs.Books.{record_added}
+use Rattle.desk.proofs.Books.{framed_reply, unframed_reply, refuses, accepts, lays, balance-low, balance-set, eight_low, eight_set_lem, record_added}
 use Rattle.inbox.specs.After.{deposited_desk, claimed_desk, row_of, is_gap, passes_ceiling, is_unclaimed, CanDeposit, CanClaim}
-
--- ---- tests on any two numbers
--- two orders that say the same
-same-order : (a b c d : ℕ) → (a < b → c < d) → (c < d → a < b) → ltb a b ≡ ltb c d
-same-order a b c d f g = go (ltb a b) refl
-  where
-    not_then : (t : Bool) → ltb c d ≡ t → ltb a b ≡ false → false ≡ ltb c d
-    not_then true q e = sym e ∙ lt-ltb a b (g (ltb-true c d q)) ∙ sym q
-    not_then false q e = sym q
-
-    go : (t : Bool) → ltb a b ≡ t → t ≡ ltb c d
-    go true e = sym (lt-ltb c d (f (ltb-true a b e)))
-    go false e = not_then (ltb c d) refl e
-
-pub gap_below : (last number : ℕ) → number ≤ last → ltb highest_number number ≡ is_gap last number
-gap_below last number h = rw (le-ltb (last + 1) number (omega arith))
-
-pub gap_above : (last number : ℕ) → last < number → (ltb 1 (number - last) || ltb highest_number number) ≡ is_gap last number
-gap_above last number h = rw (same-order 1 (number - last) (last + 1) number (λ g. omega arith) (λ g. omega arith))
-
-pub ceiling_alone : (sum amount : ℕ) → ceiling < amount → true ≡ passes_ceiling sum amount
-ceiling_alone sum amount h = sym (lt-ltb ceiling (sum + amount) (omega arith))
-
-pub ceiling-with : (sum amount : ℕ) → amount ≤ ceiling → ltb (ceiling - amount) sum ≡ passes_ceiling sum amount
-ceiling-with sum amount h = same-order (ceiling - amount) sum ceiling (sum + amount) (λ g. omega arith) (λ g. omega arith)
 
 -- ---- deposit
 abbrev pub deposit_entries : List ℕ → DepositNumber → ℕ → Deposit → List Entry
@@ -71,11 +50,22 @@ deposit_entries lifetime last unclaimed x =
     ∷ (Refusal.InboxFull, leb inbox_rows unclaimed)
     ∷ []
 
-pub deposit-told : (lifetime : List ℕ) (last : DepositNumber) (unclaimed : ℕ) (x : Deposit) (s : State)
-    → s.outside.lifetime ≡ lifetime → s.outside.last ≡ last → length s.inbox ≡ unclaimed
-    → told (chain (deposit_entries lifetime last unclaimed x)) ≡ plain (smallest (table s (Call.Deposit x)))
+pub deposit_told : (x : Deposit) (s : State) (r : Result (Unit {0}) Refusal) → r ≡ chain (deposit_entries s.outside.lifetime s.outside.last (length s.inbox) x)
+    → told (plainly r) ≡ plain (smallest (table s (Call.Deposit x)))
 unfolding refusals fulls full total told_refusal not_below all
-deposit-told lifetime last unclaimed x s p q r = rw (p, q, r) (chain-told (deposit_entries lifetime last unclaimed x) refl)
+deposit_told x s r e = rw e (chain-told (deposit_entries s.outside.lifetime s.outside.last (length s.inbox) x) refl)
+
+-- of a book in frame the deposit's table tells what the rules answer
+pub deposit_met : (b : Book) (x : Deposit) (r : Result (Unit {0}) Refusal) → in_frame b ≡ true
+    → ((s : State) → s.outside.lifetime ≡ b.desk.lifetime → s.outside.last ≡ b.desk.counts.last → length s.inbox ≡ b.desk.counts.unclaimed → told (plainly r) ≡ plain (smallest (table s (Call.Deposit x))))
+    → told (plainly r) ≡ plain (reply_number b (Call.Deposit x))
+unfolding frame_test view
+deposit_met b x r f h = framed_reply b (Call.Deposit x) r refl f (h (view b) refl refl (length-rows deposit_shape b.desk.counts.unclaimed b.inbox))
+
+pub deposit_accepted : (b : Book) (x : Deposit) → in_frame b ≡ true
+    → ((s : State) → s.outside.lifetime ≡ b.desk.lifetime → s.outside.last ≡ b.desk.counts.last → length s.inbox ≡ b.desk.counts.unclaimed → told (Ok Done.Plain) ≡ plain (smallest (table s (Call.Deposit x))))
+    → Accepted b (Call.Deposit x)
+deposit_accepted b x f h = accepts b (Call.Deposit x) (deposit_met b x (Ok tt) f h)
 
 pub can_deposit : (b : Book) (x : Deposit) → Accepted b (Call.Deposit x) → CanDeposit b.desk x
 unfolding view
@@ -90,12 +80,21 @@ deposit_added : (b : Book) (x : Deposit) → Framed b → b.desk.counts.unclaime
     → lay deposit_shape (inbox_of b ++ (x ∷ [])) b.desk.counts.unclaimed b.inbox ≡ put_at (b.desk.counts.unclaimed * deposit_shape.width) (deposit_shape.flat x) b.inbox
 deposit_added b x f h = row_added deposit_shape deposit_sound b.desk.counts.unclaimed b.inbox x (omega arith)
 
-pub deposit-laid : (b : Book) (x : Deposit) → Framed b → b.desk.counts.unclaimed < inbox_rows
+deposit_laid : (b : Book) (x : Deposit) → Framed b → b.desk.counts.unclaimed < inbox_rows
     → book_of (deposited_desk b.desk x) (put_at (b.desk.counts.unclaimed * deposit_shape.width) (deposit_shape.flat x) b.inbox) b.outbox b.history
     ≡ done (Call.Deposit x) b
 unfolding laid desk_of effect balances_after holders_after inbox_edit edited outside_after deposited records_of deposited_desk view
-deposit-laid b x f h =
+deposit_laid b x f h =
     rw (deposit_added b x f h, outbox-kept b f, history-kept b f, length-append (inbox_of b) (x ∷ []), inbox-count b f, outbox-count b f, flight_count b f, history-count b f [], add-zero)
+
+-- what deposit_done leaves
+pub deposit_lays : (b : Book) (x : Deposit) → Accepted b (Call.Deposit x) → (desk : Desk) (inbox : List ℕ) → desk ≡ deposited_desk b.desk x
+    → inbox ≡ put_at (b.desk.counts.unclaimed * deposit_shape.width) (deposit_shape.flat x) b.inbox
+    → outcome_of (Ok Done.Plain) (book_of desk inbox b.outbox b.history) ≡ answer b (Call.Deposit x)
+unfolding told done_answer pieces_of
+deposit_lays b x y desk inbox p q =
+    lays b (Call.Deposit x) y (Ok Done.Plain) (book_of desk inbox b.outbox b.history) refl refl
+    (rw (p, q) (deposit_laid b x (framed b (accepted-frame b (Call.Deposit x) y)) (can_deposit b x y).unclaimed))
 
 -- ---- the place of the deposit that a claim names
 eqb_comm : (a b : ℕ) → eqb a b ≡ eqb b a
@@ -129,7 +128,7 @@ place_rows c (suc n) t h =
     let l : length (take w t) ≡ w = length-take-le w t (omega arith) in
     rw (row-matches c (take w t) l, place_rows c n (drop w t) (rw length-drop (omega arith)))
 
-pub place_is : (b : Book) (c : ClaimFields) → Framed b → place_of (row_of c) b.desk.counts.unclaimed b.inbox ≡ index_of (matches c) (inbox_of b)
+place_is : (b : Book) (c : ClaimFields) → Framed b → place_of (row_of c) b.desk.counts.unclaimed b.inbox ≡ index_of (matches c) (inbox_of b)
 unfolding place_of
 place_is b c f = rw (le-leb (b.desk.counts.unclaimed * deposit_shape.width) (length b.inbox) (omega arith)) (place_rows c b.desk.counts.unclaimed b.inbox (omega arith))
 
@@ -143,10 +142,10 @@ claim_entries waits records c =
     ∷ (Refusal.HistoryFull, leb history_rows records)
     ∷ []
 
-pub claim-told : (waits : Bool) (records : ℕ) (c : ClaimFields) (s : State) → any (matches c) s.inbox ≡ waits → length s.history ≡ records
-    → told (chain (claim_entries waits records c)) ≡ plain (smallest (table s (Call.Claim c)))
+pub claim_told : (c : ClaimFields) (s : State) (r : Result (Unit {0}) Refusal) → r ≡ chain (claim_entries (any (matches c) s.inbox) (length s.history) c)
+    → told (plainly r) ≡ plain (smallest (table s (Call.Claim c)))
 unfolding refusals fulls full told_refusal not_below all
-claim-told waits records c s p q = rw (p, q) (chain-told (claim_entries waits records c) refl)
+claim_told c s r e = rw e (chain-told (claim_entries (any (matches c) s.inbox) (length s.history) c) refl)
 
 -- in frame, a deposit is found in the table where one of the state matches
 pub waits_is : (b : Book) (c : ClaimFields) → Framed b → any (matches c) (view b).inbox ≡ is_unclaimed c b.desk.counts.unclaimed b.inbox
@@ -160,8 +159,20 @@ waits_is b c f =
     twice true = refl
     twice false = refl
 
+-- of a book in frame the claim's table tells what the rules answer
+pub claim_met : (b : Book) (c : ClaimFields) (r : Result (Unit {0}) Refusal) → in_frame b ≡ true
+    → ((s : State) → any (matches c) s.inbox ≡ is_unclaimed c b.desk.counts.unclaimed b.inbox → length s.history ≡ b.desk.counts.records → told (plainly r) ≡ plain (smallest (table s (Call.Claim c))))
+    → told (plainly r) ≡ plain (reply_number b (Call.Claim c))
+unfolding frame_test
+claim_met b c r f h = framed_reply b (Call.Claim c) r refl f (h (view b) (waits_is b c (framed b f)) (unfold view in length-rows record_shape b.desk.counts.records b.history))
+
+pub claim_accepted : (b : Book) (c : ClaimFields) → in_frame b ≡ true
+    → ((s : State) → any (matches c) s.inbox ≡ is_unclaimed c b.desk.counts.unclaimed b.inbox → length s.history ≡ b.desk.counts.records → told (Ok Done.Plain) ≡ plain (smallest (table s (Call.Claim c))))
+    → Accepted b (Call.Claim c)
+claim_accepted b c f h = accepts b (Call.Claim c) (claim_met b c (Ok tt) f h)
+
 -- the place of a claimed deposit is one of the used rows
-pub claim_place : (b : Book) (c : ClaimFields) → Accepted b (Call.Claim c) → index_of (matches c) (inbox_of b) < b.desk.counts.unclaimed
+claim_place : (b : Book) (c : ClaimFields) → Accepted b (Call.Claim c) → index_of (matches c) (inbox_of b) < b.desk.counts.unclaimed
 unfolding view
 claim_place b c a =
     let q : ClaimFit (view b) c = fit b (Call.Claim c) a in
@@ -195,12 +206,12 @@ claim-count b i h =
     length-append (take i (inbox_of b)) (drop (suc i) (inbox_of b))
     ∙ rw (length-take-le i (inbox_of b) (omega arith), length-drop (suc i) (inbox_of b), l) (omega arith)
 
-pub claim-laid : (b : Book) (c : ClaimFields) → Framed b → index_of (matches c) (inbox_of b) < b.desk.counts.unclaimed → b.desk.counts.records < history_rows
+claim_laid : (b : Book) (c : ClaimFields) → Framed b → index_of (matches c) (inbox_of b) < b.desk.counts.unclaimed → b.desk.counts.records < history_rows
     → book_of (claimed_desk b.desk c) (taken_out deposit_shape.width (index_of (matches c) (inbox_of b)) b.desk.counts.unclaimed b.inbox) b.outbox
     (put_at (b.desk.counts.records * record_shape.width) (record_shape.flat (claim_record c)) b.history)
     ≡ done (Call.Claim c) b
 unfolding laid desk_of effect balances_after holders_after inbox_edit outside_after records_of claimed_desk view
-claim-laid b c f h k =
+claim_laid b c f h k =
     rw (
       claim-taken b (index_of (matches c) (inbox_of b)) f h,
       outbox-kept b f,
@@ -210,3 +221,27 @@ claim-laid b c f h k =
       flight_count b f,
       history-count b f (claim_record c ∷ []),
     )
+
+-- what claim_done leaves
+pub claim_lays : (b : Book) (c : ClaimFields) → Accepted b (Call.Claim c) → (desk : Desk) (inbox history : List ℕ) → desk ≡ claimed_desk b.desk c
+    → inbox ≡ taken_out deposit_shape.width (place_of (row_of c) b.desk.counts.unclaimed b.inbox) b.desk.counts.unclaimed b.inbox
+    → history ≡ put_at (b.desk.counts.records * record_shape.width) (record_shape.flat (claim_record c)) b.history
+    → outcome_of (Ok Done.Plain) (book_of desk inbox b.outbox history) ≡ answer b (Call.Claim c)
+unfolding told done_answer pieces_of
+claim_lays b c y desk inbox history p q r =
+    let f : Framed b = framed b (accepted-frame b (Call.Claim c) y) in
+    lays b (Call.Claim c) y (Ok Done.Plain) (book_of desk inbox b.outbox history) refl refl
+    (rw (p, q, r, place_is b c f) (claim_laid b c f (claim_place b c y) (can_claim b c y).records))
+
+-- ---- what each function's proof looks in
+pub ruleset deposit_call = (refuses, unframed_reply, deposit_met, deposit_accepted)
+
+pub ruleset deposit_done = (can_deposit, deposit_lays)
+
+pub ruleset claim_call = (refuses, unframed_reply, claim_met, claim_accepted)
+
+pub ruleset claim_done = (can_claim, claim_lays)
+
+pub ruleset lifetimes = (eight_low, eight_set_lem)
+
+pub ruleset balances = (balance-low, balance-set)

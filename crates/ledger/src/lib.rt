@@ -1,187 +1,183 @@
 // The subaccount ledger: transfer, grant and sign. Each call is the frame test, its table of refusals (`.._reply`), which
 // is handed what it reads, and then what is done where nothing refuses it (`.._done`; a sign does nothing more). Each
 // says in one equation, of all three tables that it is lent, what it answers and what it leaves of the desk and every
-// row.
+// row. A table that a call does not write is lent to be read, so a caller sees that it stays.
+// The calls have the test of the frame and the return in common; each has its own tables, table of refusals and
+// clause, so one function for all of them would take two closures and be no shorter.
 #![tactic(auto)]
 
-ghost use Rattle.std.specs.Prelude.{◌≡◌, length};
+ghost use Rattle.std.specs.Prelude.{◌≡◌, length, Ok};
 ghost use Rattle.rules.specs.declared.calls.Call.{Call};
+ghost use Rattle.rules.specs.declared.answers.Done.{Done};
 ghost use Rattle.ledger.specs.After.{CanTransfer, CanGrant, transferred_desk, granted_desk};
 ghost use Rattle.rules.specs.Facts.{Accepted};
 ghost use Rattle.rules.specs.State.{State};
-ghost use Rattle.rules.specs.Replies.{told, plain, smallest};
+ghost use Rattle.rules.specs.Replies.{told, plainly, plain, smallest};
 ghost use Rattle.rules.specs.Refusals.{table};
 ghost use Rattle.rules.specs.Answer.{answer, book_of, outcome_of};
 
-use desk::answers::{is_done, refuse};
-use desk::entries::{grant_record, transfer_record};
+use desk::answers::refuse;
 use desk::fields::{balance_of, is_amount, is_asset, is_domain, is_member, of_eight};
 use desk::keep::{set_balance, set_of_eight};
-use frames::framed;
-use rules::answers::{Answer, Answered, Refusal};
+use frames::in_frame;
+use rules::answers::Refusal;
+use rules::book::BookView;
 use rules::calls::{GrantFields, SignFields, TransferFields};
 use rules::desk::Desk;
 use rules::limits::HISTORY_ROWS;
-use tables::rows::put_record;
+use rules::rows::Record;
+use tables::rows::put;
 
 // Transfer (from, to, asset, amount).
+#[tactic(auto, using(crate::proofs::Laws::transfer_call), unfolding(rules::specs::Answer::frame_test))]
 pub fn transfer(
-    d: Desk,
+    desk: &mut Desk,
     inbox: &[u64],
     outbox: &[u64],
     history: &mut [u64],
     t: TransferFields,
-) -> Answered
-    ensures { outcome_of result inbox.now outbox.now history.new ≡ answer (book_of d inbox.now outbox.now history.old) (Call.Transfer t) }
+) -> Result<(), Refusal>
+    ensures { outcome_of (plainly result) (book_of desk.new inbox.now outbox.now history.new) ≡ answer (book_of desk.old inbox.now outbox.now history.old) (Call.Transfer t) }
 {
-    let is_framed = framed(d, inbox, outbox, history);
-    let found = transfer_reply(&d.balances, d.counts.records, t);
-    let reply = refuse(!is_framed, Refusal::BadBook, found);
-    if !is_done(reply) {
-        return Answered {
-            answer: reply,
-            desk: d,
-        };
-    }
-    transfer_done(d, inbox, outbox, history, t)
+    let is_framed = in_frame(&BookView {
+        desk,
+        inbox,
+        outbox,
+        history,
+    });
+    refuse(!is_framed, Refusal::BadBook)?;
+    transfer_reply(&desk.balances, desk.counts.records, t)?;
+    transfer_done(desk, inbox, outbox, history, t);
+    Ok(())
 }
 
 // Where nothing is refused.
+#[tactic(auto, using(crate::proofs::Laws::transfer_done))]
 pub fn transfer_done(
-    d: Desk,
+    desk: &mut Desk,
     inbox: &[u64],
     outbox: &[u64],
     history: &mut [u64],
     t: TransferFields,
-) -> Answered
-    requires { Accepted (book_of d inbox.now outbox.now history.old) (Call.Transfer t) }
-    ensures { outcome_of result inbox.now outbox.now history.new ≡ answer (book_of d inbox.now outbox.now history.old) (Call.Transfer t) }
+)
+    requires { Accepted (book_of desk.old inbox.now outbox.now history.old) (Call.Transfer t) }
+    ensures { outcome_of (Ok Done.Plain) (book_of desk.new inbox.now outbox.now history.new) ≡ answer (book_of desk.old inbox.now outbox.now history.old) (Call.Transfer t) }
 {
-    let entry = transfer_record(t);
-    put_record(history, d.counts.records, entry);
-    let desk = transferred(d, t);
-    Answered {
-        answer: Answer::Done,
-        desk,
-    }
+    put(history, desk.counts.records, Record::from(t));
+    keep_transferred(desk, t);
 }
 
-// The transfer's table of refusals, the largest number first, for a book in frame. It reads the balances and how many
+// The transfer's table of refusals, the smallest number first, for a book in frame. It reads the balances and how many
 // records there are.
-pub fn transfer_reply(balances: &[u64; 128], records: usize, t: TransferFields) -> Answer
-    ensures { (s : State) → s.balances ≡ balances.now → length s.history ≡ records → told result ≡ plain (smallest (table s (Call.Transfer t))) }
+#[tactic(auto, using(crate::proofs::Laws::transfer_told))]
+pub fn transfer_reply(
+    balances: &[u64; 128],
+    records: usize,
+    t: TransferFields,
+) -> Result<(), Refusal>
+    ensures { (s : State) → s.balances ≡ balances.now → length s.history ≡ records → told (plainly result) ≡ plain (smallest (table s (Call.Transfer t))) }
 {
-    let r = refuse(HISTORY_ROWS <= records, Refusal::HistoryFull, Answer::Done);
-    let r = refuse(
+    refuse(!is_member(t.from) || !is_member(t.to), Refusal::BadMember)?;
+    refuse(!is_asset(t.asset), Refusal::BadAsset)?;
+    refuse(!is_amount(t.amount), Refusal::BadAmount)?;
+    refuse(t.from == t.to, Refusal::SameMember)?;
+    refuse(
         balance_of(balances, t.from, t.asset) < t.amount,
         Refusal::Short,
-        r,
-    );
-    let r = refuse(t.from == t.to, Refusal::SameMember, r);
-    let r = refuse(!is_amount(t.amount), Refusal::BadAmount, r);
-    let r = refuse(!is_asset(t.asset), Refusal::BadAsset, r);
-    refuse(!is_member(t.from) | !is_member(t.to), Refusal::BadMember, r)
+    )?;
+    refuse(HISTORY_ROWS <= records, Refusal::HistoryFull)
 }
 
 // The sender's balance falls, the receiver's grows, and there is one record more.
-fn transferred(d: Desk, t: TransferFields) -> Desk
-    requires { CanTransfer d t }
-    ensures { result ≡ transferred_desk d t }
+#[tactic(auto, using(crate::proofs::Laws::balances_moved), unfolding(crate::specs::After::transferred_desk, rules::specs::Effects::credit))]
+fn keep_transferred(desk: &mut Desk, t: TransferFields)
+    requires { CanTransfer desk.old t }
+    ensures { desk.new ≡ transferred_desk desk.old t }
 {
-    let mut next = d;
-    let less = balance_of(&next.balances, t.from, t.asset) - t.amount;
-    set_balance(&mut next.balances, t.from, t.asset, less);
-    let more = balance_of(&next.balances, t.to, t.asset) + t.amount;
-    set_balance(&mut next.balances, t.to, t.asset, more);
-    let mut counts = d.counts;
-    counts.records += 1;
-    next.counts = counts;
-    next
+    let less = balance_of(&desk.balances, t.from, t.asset) - t.amount;
+    set_balance(&mut desk.balances, t.from, t.asset, less);
+    let more = balance_of(&desk.balances, t.to, t.asset) + t.amount;
+    set_balance(&mut desk.balances, t.to, t.asset, more);
+    desk.counts.records += 1;
 }
 
 // Grant (from, to, domain): the domain passes to another member.
+#[tactic(auto, using(crate::proofs::Laws::grant_call), unfolding(rules::specs::Answer::frame_test))]
 pub fn grant(
-    d: Desk,
+    desk: &mut Desk,
     inbox: &[u64],
     outbox: &[u64],
     history: &mut [u64],
     g: GrantFields,
-) -> Answered
-    ensures { outcome_of result inbox.now outbox.now history.new ≡ answer (book_of d inbox.now outbox.now history.old) (Call.Grant g) }
+) -> Result<(), Refusal>
+    ensures { outcome_of (plainly result) (book_of desk.new inbox.now outbox.now history.new) ≡ answer (book_of desk.old inbox.now outbox.now history.old) (Call.Grant g) }
 {
-    let is_framed = framed(d, inbox, outbox, history);
-    let found = grant_reply(&d.holders, d.counts.records, g);
-    let answer = refuse(!is_framed, Refusal::BadBook, found);
-    if !is_done(answer) {
-        return Answered { answer, desk: d };
-    }
-    grant_done(d, inbox, outbox, history, g)
+    let is_framed = in_frame(&BookView {
+        desk,
+        inbox,
+        outbox,
+        history,
+    });
+    refuse(!is_framed, Refusal::BadBook)?;
+    grant_reply(&desk.holders, desk.counts.records, g)?;
+    grant_done(desk, inbox, outbox, history, g);
+    Ok(())
 }
 
 // Where nothing is refused.
+#[tactic(auto, using(crate::proofs::Laws::grant_done))]
 pub fn grant_done(
-    d: Desk,
+    desk: &mut Desk,
     inbox: &[u64],
     outbox: &[u64],
     history: &mut [u64],
     g: GrantFields,
-) -> Answered
-    requires { Accepted (book_of d inbox.now outbox.now history.old) (Call.Grant g) }
-    ensures { outcome_of result inbox.now outbox.now history.new ≡ answer (book_of d inbox.now outbox.now history.old) (Call.Grant g) }
+)
+    requires { Accepted (book_of desk.old inbox.now outbox.now history.old) (Call.Grant g) }
+    ensures { outcome_of (Ok Done.Plain) (book_of desk.new inbox.now outbox.now history.new) ≡ answer (book_of desk.old inbox.now outbox.now history.old) (Call.Grant g) }
 {
-    let entry = grant_record(g);
-    put_record(history, d.counts.records, entry);
-    let desk = granted(d, g);
-    Answered {
-        answer: Answer::Done,
-        desk,
-    }
+    put(history, desk.counts.records, Record::from(g));
+    keep_granted(desk, g);
 }
 
-// The grant's table of refusals, the largest number first, for a book in frame. It reads the holders and how many
+// The grant's table of refusals, the smallest number first, for a book in frame. It reads the holders and how many
 // records there are.
-pub fn grant_reply(holders: &[u64; 8], records: usize, g: GrantFields) -> Answer
-    ensures { (s : State) → s.holders ≡ holders.now → length s.history ≡ records → told result ≡ plain (smallest (table s (Call.Grant g))) }
+#[tactic(auto, using(crate::proofs::Laws::grant_told))]
+pub fn grant_reply(holders: &[u64; 8], records: usize, g: GrantFields) -> Result<(), Refusal>
+    ensures { (s : State) → s.holders ≡ holders.now → length s.history ≡ records → told (plainly result) ≡ plain (smallest (table s (Call.Grant g))) }
 {
-    let r = refuse(HISTORY_ROWS <= records, Refusal::HistoryFull, Answer::Done);
-    let r = refuse(of_eight(holders, g.domain) != g.from, Refusal::NotHolder, r);
-    let r = refuse(g.from == g.to, Refusal::SameMember, r);
-    let r = refuse(!is_domain(g.domain), Refusal::BadDomain, r);
-    refuse(!is_member(g.from) | !is_member(g.to), Refusal::BadMember, r)
+    refuse(!is_member(g.from) || !is_member(g.to), Refusal::BadMember)?;
+    refuse(!is_domain(g.domain), Refusal::BadDomain)?;
+    refuse(g.from == g.to, Refusal::SameMember)?;
+    refuse(of_eight(holders, g.domain) != g.from, Refusal::NotHolder)?;
+    refuse(HISTORY_ROWS <= records, Refusal::HistoryFull)
 }
 
 // The domain has another holder, and there is one record more.
-fn granted(d: Desk, g: GrantFields) -> Desk
-    requires { CanGrant d g }
-    ensures { result ≡ granted_desk d g }
+#[tactic(auto, using(desk::proofs::Books::eight_set_lem), unfolding(crate::specs::After::granted_desk))]
+fn keep_granted(desk: &mut Desk, g: GrantFields)
+    requires { CanGrant desk.old g }
+    ensures { desk.new ≡ granted_desk desk.old g }
 {
-    let mut next = d;
-    set_of_eight(&mut next.holders, g.domain, g.to);
-    let mut counts = d.counts;
-    counts.records += 1;
-    next.counts = counts;
-    next
+    set_of_eight(&mut desk.holders, g.domain, g.to);
+    desk.counts.records += 1;
 }
 
 // Sign (member, domain): allowed exactly if the member holds the domain. Changes nothing.
-pub fn sign(d: Desk, inbox: &[u64], outbox: &[u64], history: &[u64], s: SignFields) -> Answered
-    ensures { outcome_of result inbox.now outbox.now history.now ≡ answer (book_of d inbox.now outbox.now history.now) (Call.Sign s) }
+#[tactic(auto, using(crate::proofs::Laws::sign_call), unfolding(rules::specs::Answer::frame_test))]
+pub fn sign(book: &BookView, s: SignFields) -> Result<(), Refusal>
+    ensures { outcome_of (plainly result) book.now ≡ answer book.now (Call.Sign s) }
 {
-    let is_framed = framed(d, inbox, outbox, history);
-    let found = sign_reply(&d.holders, s);
-    let answer = refuse(!is_framed, Refusal::BadBook, found);
-    Answered { answer, desk: d }
+    refuse(!in_frame(book), Refusal::BadBook)?;
+    sign_reply(&book.desk.holders, s)
 }
 
-// The table of refusals of sign, the largest number first, for a book in frame. It reads the holders.
-pub fn sign_reply(holders: &[u64; 8], g: SignFields) -> Answer
-    ensures { (s : State) → s.holders ≡ holders.now → told result ≡ plain (smallest (table s (Call.Sign g))) }
+// The table of refusals of sign, the smallest number first, for a book in frame. It reads the holders.
+#[tactic(auto, using(crate::proofs::Laws::sign_told))]
+pub fn sign_reply(holders: &[u64; 8], g: SignFields) -> Result<(), Refusal>
+    ensures { (s : State) → s.holders ≡ holders.now → told (plainly result) ≡ plain (smallest (table s (Call.Sign g))) }
 {
-    let r = refuse(
-        of_eight(holders, g.domain) != g.member,
-        Refusal::NotHolder,
-        Answer::Done,
-    );
-    let r = refuse(!is_domain(g.domain), Refusal::BadDomain, r);
-    refuse(!is_member(g.member), Refusal::BadMember, r)
+    refuse(!is_member(g.member), Refusal::BadMember)?;
+    refuse(!is_domain(g.domain), Refusal::BadDomain)?;
+    refuse(of_eight(holders, g.domain) != g.member, Refusal::NotHolder)
 }

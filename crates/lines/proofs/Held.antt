@@ -8,10 +8,9 @@ use lib.Dec.{leb, ltb, eqb}
 use lib.ListN.{length, take}
 use lib.Seq.{take-nil, take_all, length-take-le}
 use borrow.Author.Tests.{leb-true, leb-false, lt-leb, ltb-true}
-use Rattle.rules.specs.declared.calls.Field.{Field}
 use Rattle.rules.specs.Limits.{most_held, most_digits}
 use Rattle.rules.specs.Lists.{all, same, index_of, bytes}
-use Rattle.rules.specs.Lines.{tab, field_end, first_field, after_field, fields_after, reads_as_number, number, Numbers, and_read, wanted, Form, deposit_form, claim_form, transfer_form, withdraw_form, send_form, settle_form, grant_form, sign_form, trace_form, forms, formed, read_as, read_whole, unread, read_line}
+use Rattle.rules.specs.Lines.{tab, field_end, first_field, after_field, fields_after, reads_as_number, failing, number, Numbers, and_read, wanted, Form, deposit_form, claim_form, transfer_form, withdraw_form, send_form, settle_form, grant_form, sign_form, trace_form, forms, formed, read_as, read_whole, unread, read_line}
 use Rattle.rules.proofs.Tests.{both, same_eq}
 use Rattle.rules.proofs.ReadBack.{fields-first}
 use Rattle.fields.proofs.FieldLaws.{end_within}
@@ -61,7 +60,7 @@ length-first s = length-take-le (field_end s) s (end_within s)
 
 -- ---- numbers
 -- more than 20 bytes are no number
-long_not : (k : ℕ) (f : List ℕ) → most_digits < length f → number k f ≡ Field.FailsAt k
+long_not : (k : ℕ) (f : List ℕ) → most_digits < length f → number k f ≡ failing k
 unfolding number reads_as_number
 long_not k f h = rw (lt-leb (length f) most_digits h, and-false)
 

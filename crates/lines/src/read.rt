@@ -1,82 +1,60 @@
 // The line reader: a word, so many numbers after it, each after a tab, and nothing after the last.
-ghost use Rattle.std.specs.Prelude.{◌+◌, ◌<◌, ◌≡◌, length};
-ghost use Rattle.rules.specs.Limits.{highest_field};
+ghost use Rattle.std.specs.Prelude.{◌+◌, ◌≡◌, Err, MatchResult, length};
 ghost use Rattle.rules.specs.Lists.{same};
 ghost use Rattle.rules.specs.Lines.{deposit_form, claim_form, transfer_form, withdraw_form, send_form, settle_form, grant_form, sign_form, trace_form};
-ghost use Rattle.rules.specs.Lines.{numbers_of, formed, read_whole, unread, read_line};
-ghost use Rattle.lines.specs.Reading.{wanted_in, one, two, three, four};
+ghost use Rattle.rules.specs.Lines.{Numbers, numbers_of, formed, read_whole, unread, read_line};
+ghost use Rattle.lines.specs.Reading.{wanted_in};
 
-use fields::{ReadField, after_field, field_end, next_field};
+use fields::{field_end, next_field};
 use rules::calls::{
-    Call, ClaimFields, Field, GrantFields, Line, SignFields, TransferFields, WithdrawalFields,
+    Call, ClaimFields, FailsAt, GrantFields, SignFields, TransferFields, WithdrawalFields,
 };
 use rules::limits::{MOST_BYTES, MOST_HELD};
 use rules::rows::{Deposit, DepositNumber, Nonce};
 
-// What reading so many numbers gives: the numbers, in the line's order, or the field that does not read.
-#[derive(Clone, Copy)]
-enum Two {
-    Numbers(u64, u64),
-    FailsAt(u64),
-}
-
-#[derive(Clone, Copy)]
-enum Three {
-    Numbers(u64, u64, u64),
-    FailsAt(u64),
-}
-
-#[derive(Clone, Copy)]
-enum Four {
-    Numbers(u64, u64, u64, u64),
-    FailsAt(u64),
-}
-
 // A line "has at most 120 bytes". One that has more is read for the field that it tells, and no further than it would
 // be held.
-pub fn read_line(s: &[u8]) -> Line
+pub fn read_line(s: &[u8]) -> Result<Call, FailsAt>
     ensures { result ≡ read_line s.now }
 {
     if MOST_BYTES < s.len() {
-        return Line::Malformed(unread_field(&s[..MOST_HELD]));
+        return Err(unread_field(&s[..MOST_HELD]));
     }
     read_whole(s)
 }
 
 // The field that an over-long or unfinished line tells.
-pub fn unread_field(s: &[u8]) -> u64
-    ensures { Line.Malformed result ≡ unread (read_whole s.now) }
+#[tactic(auto, unfolding(rules::specs::Lines::unread))]
+pub fn unread_field(s: &[u8]) -> FailsAt
+    ensures { Err result ≡ unread (read_whole s.now) }
 {
     match read_whole(s) {
-        Line::Reads(c) => count_with_word(c),
-        Line::Malformed(k) => k,
+        Ok(call) => FailsAt(count_with_word(call)),
+        Err(e) => e,
     }
 }
 
 // "If all read, their count with the word."
+#[tactic(auto, unfolding(rules::specs::Lines::numbers_of))]
 fn count_with_word(c: Call) -> u64
     ensures { result ≡ length (numbers_of c) + 1 }
 {
     match c {
-        Call::Deposit(_) => 5,
-        Call::Claim(_) => 5,
-        Call::Transfer(_) => 5,
-        Call::Withdraw(_) => 5,
-        Call::Send => 1,
-        Call::Settle(_) => 2,
+        Call::Deposit(_) | Call::Claim(_) | Call::Transfer(_) | Call::Withdraw(_) => 5,
         Call::Grant(_) => 4,
         Call::Sign(_) => 3,
-        Call::Trace(_) => 2,
+        Call::Settle(_) | Call::Trace(_) => 2,
+        Call::Send => 1,
     }
 }
 
 // "A read line is one of nine calls, each with its own numbers." The word says which, and "the word is field 0".
-fn read_whole(s: &[u8]) -> Line
+// One `if` after the other: a `match` on the word was tried, and its proof did not close. It parts into 49 arms of
+// words that are none of the nine, each with an answer of its own.
+fn read_whole(s: &[u8]) -> Result<Call, FailsAt>
     ensures { result ≡ read_whole s.now }
 {
-    let e = field_end(s);
-    let word = &s[..e];
-    let rest = after_field(s, e);
+    let (word, rest) = s.split_at(field_end(s));
     if word_is(word, b"deposit") {
         return read_deposit(rest);
     }
@@ -104,210 +82,138 @@ fn read_whole(s: &[u8]) -> Line
     if word_is(word, b"trace") {
         return read_trace(rest);
     }
-    Line::Malformed(0)
+    Err(FailsAt(0))
 }
 
-// Field k, and nothing after it: "one too many the next number".
-fn last_field(s: &[u8], k: u64) -> Field
-    requires { k < highest_field }
-    ensures { one result ≡ wanted_in k 1 s.now }
+// The N numbers that are wanted, from field 1 on, and nothing after the last: "one too many the next number". "let ..
+// else takes the number out of the field answer, otherwise returns Malformed."
+fn numbers<const N: usize>(s: &[u8]) -> Result<[u64; N], FailsAt>
+    ensures { MatchResult result (λ ns. wanted_in 1 N s.now ≡ Numbers.all_read ns)
+        (λ e. wanted_in 1 N s.now ≡ Numbers.fails_at e.0) }
 {
-    let ReadField::Number(n, end) = next_field(s, k) else {
-        return Field::FailsAt(k);
-    };
-    if end < s.len() {
-        return Field::FailsAt(k + 1);
+    let mut numbers = [0; N];
+    let mut rest = s;
+    for (i, number) in numbers.iter_mut().enumerate() {
+        let k = i as u64 + 1;
+        let Ok((n, after)) = next_field(rest, k) else {
+            return Err(FailsAt(k));
+        };
+        *number = n;
+        rest = after;
     }
-    Field::Number(n)
-}
-
-// Two numbers, and nothing after them.
-fn two_fields(s: &[u8]) -> Two
-    ensures { two result ≡ wanted_in 1 2 s.now }
-{
-    let ReadField::Number(first, end) = next_field(s, 1) else {
-        return Two::FailsAt(1);
-    };
-    match last_field(after_field(s, end), 2) {
-        Field::Number(second) => Two::Numbers(first, second),
-        Field::FailsAt(j) => Two::FailsAt(j),
+    if !rest.is_empty() {
+        return Err(FailsAt(N as u64 + 1));
     }
-}
-
-// Three of them.
-fn three_fields(s: &[u8]) -> Three
-    ensures { three result ≡ wanted_in 1 3 s.now }
-{
-    let ReadField::Number(first, end) = next_field(s, 1) else {
-        return Three::FailsAt(1);
-    };
-    let s = after_field(s, end);
-    let ReadField::Number(second, end) = next_field(s, 2) else {
-        return Three::FailsAt(2);
-    };
-    match last_field(after_field(s, end), 3) {
-        Field::Number(third) => Three::Numbers(first, second, third),
-        Field::FailsAt(j) => Three::FailsAt(j),
-    }
-}
-
-// Four of them.
-fn four_fields(s: &[u8]) -> Four
-    ensures { four result ≡ wanted_in 1 4 s.now }
-{
-    let ReadField::Number(first, end) = next_field(s, 1) else {
-        return Four::FailsAt(1);
-    };
-    let s = after_field(s, end);
-    let ReadField::Number(second, end) = next_field(s, 2) else {
-        return Four::FailsAt(2);
-    };
-    let s = after_field(s, end);
-    let ReadField::Number(third, end) = next_field(s, 3) else {
-        return Four::FailsAt(3);
-    };
-    match last_field(after_field(s, end), 4) {
-        Field::Number(fourth) => Four::Numbers(first, second, third, fourth),
-        Field::FailsAt(j) => Four::FailsAt(j),
-    }
+    Ok(numbers)
 }
 
 // deposit: number, asset, amount, member.
-fn read_deposit(s: &[u8]) -> Line
+#[tactic(auto, unfolding(rules::specs::Lines::formed, rules::specs::Lines::deposit_form))]
+fn read_deposit(s: &[u8]) -> Result<Call, FailsAt>
     ensures { result ≡ formed deposit_form (wanted_in 1 4 s.now) }
 {
-    match four_fields(s) {
-        Four::Numbers(n, asset, amount, member) => {
-            let number = DepositNumber(n);
-            Line::Reads(Call::Deposit(Deposit {
-                number,
-                asset,
-                amount,
-                member,
-            }))
-        }
-        Four::FailsAt(j) => Line::Malformed(j),
-    }
+    let [number, asset, amount, member] = numbers::<4>(s)?;
+    let number = DepositNumber(number);
+    Ok(Call::Deposit(Deposit {
+        number,
+        asset,
+        amount,
+        member,
+    }))
 }
 
 // claim: member, number, asset, amount.
-fn read_claim(s: &[u8]) -> Line
+#[tactic(auto, unfolding(rules::specs::Lines::formed, rules::specs::Lines::claim_form))]
+fn read_claim(s: &[u8]) -> Result<Call, FailsAt>
     ensures { result ≡ formed claim_form (wanted_in 1 4 s.now) }
 {
-    match four_fields(s) {
-        Four::Numbers(member, n, asset, amount) => {
-            let number = DepositNumber(n);
-            Line::Reads(Call::Claim(ClaimFields {
-                member,
-                number,
-                asset,
-                amount,
-            }))
-        }
-        Four::FailsAt(j) => Line::Malformed(j),
-    }
+    let [member, number, asset, amount] = numbers::<4>(s)?;
+    let number = DepositNumber(number);
+    Ok(Call::Claim(ClaimFields {
+        member,
+        number,
+        asset,
+        amount,
+    }))
 }
 
 // transfer: from, to, asset, amount.
-fn read_transfer(s: &[u8]) -> Line
+#[tactic(auto, unfolding(rules::specs::Lines::formed, rules::specs::Lines::transfer_form))]
+fn read_transfer(s: &[u8]) -> Result<Call, FailsAt>
     ensures { result ≡ formed transfer_form (wanted_in 1 4 s.now) }
 {
-    match four_fields(s) {
-        Four::Numbers(from, to, asset, amount) => Line::Reads(Call::Transfer(TransferFields {
-            from,
-            to,
-            asset,
-            amount,
-        })),
-        Four::FailsAt(j) => Line::Malformed(j),
-    }
+    let [from, to, asset, amount] = numbers::<4>(s)?;
+    Ok(Call::Transfer(TransferFields {
+        from,
+        to,
+        asset,
+        amount,
+    }))
 }
 
 // withdraw: member, asset, amount, payee.
-fn read_withdraw(s: &[u8]) -> Line
+#[tactic(auto, unfolding(rules::specs::Lines::formed, rules::specs::Lines::withdraw_form))]
+fn read_withdraw(s: &[u8]) -> Result<Call, FailsAt>
     ensures { result ≡ formed withdraw_form (wanted_in 1 4 s.now) }
 {
-    match four_fields(s) {
-        Four::Numbers(member, asset, amount, payee) => Line::Reads(Call::Withdraw(
-            WithdrawalFields {
-                member,
-                asset,
-                amount,
-                payee,
-            },
-        )),
-        Four::FailsAt(j) => Line::Malformed(j),
-    }
+    let [member, asset, amount, payee] = numbers::<4>(s)?;
+    Ok(Call::Withdraw(WithdrawalFields {
+        member,
+        asset,
+        amount,
+        payee,
+    }))
 }
 
 // send: the word alone.
-fn read_send(s: &[u8]) -> Line
+#[tactic(auto, unfolding(rules::specs::Lines::formed, rules::specs::Lines::send_form))]
+fn read_send(s: &[u8]) -> Result<Call, FailsAt>
     ensures { result ≡ formed send_form (wanted_in 1 0 s.now) }
 {
-    if 0 < s.len() {
-        return Line::Malformed(1);
-    }
-    Line::Reads(Call::Send)
+    let [] = numbers::<0>(s)?;
+    Ok(Call::Send)
 }
 
 // settle: nonce.
-fn read_settle(s: &[u8]) -> Line
+#[tactic(auto, unfolding(rules::specs::Lines::formed, rules::specs::Lines::settle_form))]
+fn read_settle(s: &[u8]) -> Result<Call, FailsAt>
     ensures { result ≡ formed settle_form (wanted_in 1 1 s.now) }
 {
-    match last_field(s, 1) {
-        Field::Number(n) => Line::Reads(Call::Settle(Nonce(n))),
-        Field::FailsAt(j) => Line::Malformed(j),
-    }
+    let [nonce] = numbers::<1>(s)?;
+    Ok(Call::Settle(Nonce(nonce)))
 }
 
 // grant: from, to, domain.
-fn read_grant(s: &[u8]) -> Line
+#[tactic(auto, unfolding(rules::specs::Lines::formed, rules::specs::Lines::grant_form))]
+fn read_grant(s: &[u8]) -> Result<Call, FailsAt>
     ensures { result ≡ formed grant_form (wanted_in 1 3 s.now) }
 {
-    match three_fields(s) {
-        Three::Numbers(from, to, domain) => Line::Reads(Call::Grant(GrantFields {
-            from,
-            to,
-            domain,
-        })),
-        Three::FailsAt(j) => Line::Malformed(j),
-    }
+    let [from, to, domain] = numbers::<3>(s)?;
+    Ok(Call::Grant(GrantFields { from, to, domain }))
 }
 
 // sign: member, domain.
-fn read_sign(s: &[u8]) -> Line
+#[tactic(auto, unfolding(rules::specs::Lines::formed, rules::specs::Lines::sign_form))]
+fn read_sign(s: &[u8]) -> Result<Call, FailsAt>
     ensures { result ≡ formed sign_form (wanted_in 1 2 s.now) }
 {
-    match two_fields(s) {
-        Two::Numbers(member, domain) => Line::Reads(Call::Sign(SignFields { member, domain })),
-        Two::FailsAt(j) => Line::Malformed(j),
-    }
+    let [member, domain] = numbers::<2>(s)?;
+    Ok(Call::Sign(SignFields { member, domain }))
 }
 
 // trace: nonce.
-fn read_trace(s: &[u8]) -> Line
+#[tactic(auto, unfolding(rules::specs::Lines::formed, rules::specs::Lines::trace_form))]
+fn read_trace(s: &[u8]) -> Result<Call, FailsAt>
     ensures { result ≡ formed trace_form (wanted_in 1 1 s.now) }
 {
-    match last_field(s, 1) {
-        Field::Number(n) => Line::Reads(Call::Trace(Nonce(n))),
-        Field::FailsAt(j) => Line::Malformed(j),
-    }
+    let [nonce] = numbers::<1>(s)?;
+    Ok(Call::Trace(Nonce(nonce)))
 }
 
-// Whether the line's first field is this word.
+// Whether the line's first field is this word: `==` takes a slice and an array of bytes only as two slices.
+#[tactic(auto, using(crate::proofs::LineLaws::same_test))]
 fn word_is(f: &[u8], word: &[u8]) -> bool
     ensures { result ≡ same word.now f.now }
 {
-    let n = word.len();
-    if f.len() != n {
-        return false;
-    }
-    let mut k: usize = 0;
-    while k < n {
-        if f[k] != word[k] {
-            return false;
-        }
-        k += 1;
-    }
-    true
+    f == word
 }

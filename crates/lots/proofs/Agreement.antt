@@ -1,4 +1,5 @@
 -- In a history in frame the lots agree with the balances and with provenance, record after record: what a line is worth is the member's balance, and so every payment finds enough in its line.
+use Rattle.std.specs.Prelude.{Ok, Err}
 use Prim.Native.Nat.{ℕ, zero, suc, ◌*◌, ◌≤◌}
 use mathlib.Core.Path.{◌≡◌, refl, sym, ap, ◌∙◌}
 use mathlib.Core.Bool.{Bool, true, false, ◌&&◌, cond, or-true, and-eq-true_iff}
@@ -12,7 +13,9 @@ use Rattle.rules.specs.Limits.{member_count, asset_count, is_member, is_asset}
 use Rattle.rules.specs.Lists.{all, any, those, sum_of}
 use Rattle.rules.specs.State.{empty_state}
 use Rattle.rules.specs.Effects.{balance, cell}
-use Rattle.rules.specs.History.{Kind, kind_of, counted_as, provenance, provenance_of, Standing, standing_from, standing_as, standing_after, fits_as, replays, passes_from}
+use Rattle.rules.specs.declared.rows.Kind.{Kind}
+use Rattle.rules.specs.Kinds.{AnyKind}
+use Rattle.rules.specs.History.{kind_of, counted_as, provenance, provenance_of, Standing, standing_from, standing_as, standing_after, fits_as, replays, passes_from}
 use Rattle.rules.specs.Lots.{line, lot_of, lots_as, lots_after, replay}
 use Rattle.rules.proofs.Digits.{all_imply}
 use Rattle.lots.specs.Traces.{line_worth, is_positive, is_named, claims_deposit, standing_through}
@@ -38,22 +41,22 @@ module _ (h : List Record) (s : Standing) (ls : List Lot) (g : Agrees h s ls) (r
   in_line_lem p = rw (g.balances r.first r.asset) p.covered
 
   -- every line's worth changes as provenance counts the record
-  worth-counted : (k : Kind) → fits_as k s r ≡ true → (n b : ℕ) → line_worth n b (lots_as k ls r) ≡ counted_as k n b r (line_worth n b ls)
+  worth-counted : (k : AnyKind) → fits_as k s r ≡ true → (n b : ℕ) → line_worth n b (lots_as k ls r) ≡ counted_as k n b r (line_worth n b ls)
   unfolding lots_as counted_as fits_as
-  worth-counted Kind.claim f n b = claim-worth n b ls r
-  worth-counted Kind.transfer f n b =
+  worth-counted (Ok Kind.Claim) f n b = claim-worth n b ls r
+  worth-counted (Ok Kind.Transfer) f n b =
       let p = transfer-fits s r f in
       transfer-worth n b ls r p.apart (in_line_lem p.pays)
-  worth-counted Kind.withdrawal f n b = withdrawal-worth n b ls r (in_line_lem (withdrawal-fits s r f))
-  worth-counted Kind.grant f n b = refl
-  worth-counted Kind.other f n b = refl
+  worth-counted (Ok Kind.Withdrawal) f n b = withdrawal-worth n b ls r (in_line_lem (withdrawal-fits s r f))
+  worth-counted (Ok Kind.Grant) f n b = refl
+  worth-counted (Err e) f n b = refl
 
   -- a claim that names a lot's deposit is still there
   named_still : all (is_named (h ++ (r ∷ []))) ls ≡ true
   named_still = all_imply (is_named h) (is_named (h ++ (r ∷ []))) (λ l c. rw (any_append (claims_deposit l.asset l.number.0) h (r ∷ []), c)) ls g.named
 
   -- and a claim names the deposit of its own lot
-  named_new : kind_of r ≡ Kind.claim → is_named (h ++ (r ∷ [])) (lot_of r) ≡ true
+  named_new : kind_of r ≡ Ok Kind.Claim → is_named (h ++ (r ∷ [])) (lot_of r) ≡ true
   unfolding any
   named_new c =
       rw (
@@ -65,7 +68,7 @@ module _ (h : List Record) (s : Standing) (ls : List Lot) (g : Agrees h s ls) (r
       (or-true (any (claims_deposit r.asset r.second) h))
 
   -- all of it holds after the record
-  agrees_after : (k : Kind) → kind_of r ≡ k → fits_as k s r ≡ true → Agrees (h ++ (r ∷ [])) (standing_as k s r) (lots_as k ls r)
+  agrees_after : (k : AnyKind) → kind_of r ≡ k → fits_as k s r ≡ true → Agrees (h ++ (r ∷ [])) (standing_as k s r) (lots_as k ls r)
   agrees_after k e f =
       record {
         sized = standing_sized k s r ∙ g.sized;

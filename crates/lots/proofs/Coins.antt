@@ -1,4 +1,5 @@
 -- "Oldest first", said without lots: a line is a row of coins, and taking x takes the first x coins and leaves the others, in their order. So the remainder of a split lot stays in front.
+use Rattle.std.specs.Prelude.{Ok}
 use Prim.Native.Nat.{ℕ, ◌+◌, ◌-◌, ◌≤◌, ◌<◌}
 use mathlib.Core.Path.{◌≡◌, refl, sym, ap, ◌∙◌}
 use mathlib.Core.Bool.{Bool, true, false, cond}
@@ -10,7 +11,8 @@ use Rattle.rules.specs.declared.rows.Record.{Record}
 use Rattle.rules.specs.declared.rows.Nonce.{Nonce}
 use Rattle.rules.specs.declared.rows.Lot.{Lot}
 use Rattle.rules.specs.Lists.{those, joined}
-use Rattle.rules.specs.History.{Kind, by_first, by_second, differ, withdrawals}
+use Rattle.rules.specs.declared.rows.Kind.{Kind}
+use Rattle.rules.specs.History.{by_first, by_second, differ, withdrawals}
 use Rattle.rules.specs.Lots.{line, of_member, taken, left, lot_of, lots_as, replay, pieces}
 use Rattle.rules.proofs.Laying.{joined_append}
 use Rattle.lots.specs.Traces.{coins, taken_line, left_line, nth_withdrawal, before_payment}
@@ -81,7 +83,7 @@ line-coins n b x ls = ap coins (sym (left-line n b x ls)) ∙ left-coins n b x l
 -- ---- each record, in coins
 -- a claim puts as many coins as its amount at the end of its line, each with its deposit number
 pub claim-coins : (n b : ℕ) (ls : List Lot) (r : Record)
-    → coins (line n b (lots_as Kind.claim ls r)) ≡ cond (by_first n b r) (coins (line n b ls) ++ replicate r.amount r.second) (coins (line n b ls))
+    → coins (line n b (lots_as (Ok Kind.Claim) ls r)) ≡ cond (by_first n b r) (coins (line n b ls) ++ replicate r.amount r.second) (coins (line n b ls))
 claim-coins n b ls r = ap coins (line-claim n b ls r) ∙ go (by_first n b r)
   where
     go : (t : Bool) → coins (cond t (line n b ls ++ (lot_of r ∷ [])) (line n b ls)) ≡ cond t (coins (line n b ls) ++ replicate r.amount r.second) (coins (line n b ls))
@@ -92,7 +94,7 @@ claim-coins n b ls r = ap coins (line-claim n b ls r) ∙ go (by_first n b r)
 
 -- a transfer moves the first coins of the sender's line, in their order, to the end of the receiver's
 pub transfer-coins : (n b : ℕ) (ls : List Lot) (r : Record) → differ r ≡ true
-    → coins (line n b (lots_as Kind.transfer ls r))
+    → coins (line n b (lots_as (Ok Kind.Transfer) ls r))
     ≡ cond (by_second n b r) (coins (line n b ls) ++ take r.amount (coins (line r.first r.asset ls)))
     (cond (by_first n b r) (drop r.amount (coins (line n b ls))) (coins (line n b ls)))
 transfer-coins n b ls r d = ap coins (line-transfer n b ls r d) ∙ go (by_second n b r) (by_first n b r)
@@ -113,7 +115,7 @@ transfer-coins n b ls r d = ap coins (line-transfer n b ls r d) ∙ go (by_secon
 
 -- a withdrawal takes the first coins of the payer's line away
 pub withdrawal-coins : (n b : ℕ) (ls : List Lot) (r : Record)
-    → coins (line n b (lots_as Kind.withdrawal ls r)) ≡ cond (by_first n b r) (drop r.amount (coins (line n b ls))) (coins (line n b ls))
+    → coins (line n b (lots_as (Ok Kind.Withdrawal) ls r)) ≡ cond (by_first n b r) (drop r.amount (coins (line n b ls))) (coins (line n b ls))
 withdrawal-coins n b ls r = ap coins (line-withdrawal n b ls r) ∙ go (by_first n b r)
   where
     go : (t : Bool) → coins (cond t (left_line r.amount (line n b ls)) (line n b ls)) ≡ cond t (drop r.amount (coins (line n b ls))) (coins (line n b ls))

@@ -1,23 +1,21 @@
 -- What the test of a record in its place says of the record, kind by kind.
+use Rattle.std.specs.Prelude.{Ok, Err}
 use Prim.Native.Nat.{ℕ, ◌≤◌}
 use mathlib.Core.Path.{◌≡◌, refl, sym, ◌∙◌}
 use mathlib.Core.Bool.{Bool, true, false, ◌&&◌, cond, and-eq-true_iff}
 use native.Mathlib.Omega.{arith}
-use lib.Dec.{leb, eqb}
+use lib.Dec.{eqb}
 use borrow.Author.Tests.{leb-true, eq-eqb, eqb-true, eqb-false, not-true}
 use Rattle.rules.specs.declared.rows.Record.{Record}
 use Rattle.rules.specs.Limits.{is_member, is_asset, is_amount, is_payee, is_deposit_number, ceiling}
 use Rattle.rules.specs.Effects.{balance}
-use Rattle.rules.specs.History.{Kind, kind_of, is_withdrawal, by_first, by_second, differ, enough, Standing, fits_as}
+use Rattle.rules.specs.declared.rows.Kind.{Kind}
+use Rattle.rules.specs.Kinds.{AnyKind, numbered_kind}
+use Rattle.rules.specs.History.{kind_of, is_withdrawal, by_first, by_second, differ, enough, Standing, fits_as}
+use Rattle.rules.proofs.Tests.{within_true}
 use Rattle.lots.specs.Traces.{same_line}
 
 -- ---- tests read
--- a number within limits that a test checked
-pub within_true : (lo hi x : ℕ) → (leb lo x && leb x hi) ≡ true → (lo ≤ x) × (x ≤ hi)
-within_true lo hi x h =
-    let (p, q) = (and-eq-true_iff (leb lo x) (leb x hi)).0 h in
-    (leb-true lo x p, leb-true x hi q)
-
 -- two lines that are not one differ in the member or in the asset
 pub lines_apart : (m a n b : ℕ) → same_line m a n b ≡ false → m ≡ n → a ≡ b → ⊥
 lines_apart m a n b d p q =
@@ -56,14 +54,14 @@ moves_of r rest h =
     let (a, u) = (and-eq-true_iff (is_asset r.asset) (is_amount r.amount && (is_member r.first && rest))).0 h in
     let (x, v) = (and-eq-true_iff (is_amount r.amount) (is_member r.first && rest)).0 u in
     let (m, w) = (and-eq-true_iff (is_member r.first) rest).0 v in
-    (record { asset = a; amount = (within_true 1 ceiling r.amount x).0; first = m }, w)
+    (record { asset = a; amount = (within_true 1 ceiling r.amount x).low; first = m }, w)
 
 -- what each of the three says
-pub claim-fits : (s : Standing) (r : Record) → fits_as Kind.claim s r ≡ true → Moves r
+pub claim-fits : (s : Standing) (r : Record) → fits_as (Ok Kind.Claim) s r ≡ true → Moves r
 unfolding fits_as
 claim-fits s r h = (moves_of r (is_deposit_number r.second) h).0
 
-pub transfer-fits : (s : Standing) (r : Record) → fits_as Kind.transfer s r ≡ true → Passes s r
+pub transfer-fits : (s : Standing) (r : Record) → fits_as (Ok Kind.Transfer) s r ≡ true → Passes s r
 unfolding fits_as
 transfer-fits s r h =
     let (g, u) = moves_of r (is_member r.second && (differ r && enough s r)) h in
@@ -71,7 +69,7 @@ transfer-fits s r h =
     let (d, w) = (and-eq-true_iff (differ r) (enough s r)).0 v in
     record { pays = record { moves = g; covered = leb-true r.amount (balance s.balances r.first r.asset) w }; second = m; apart = d }
 
-pub withdrawal-fits : (s : Standing) (r : Record) → fits_as Kind.withdrawal s r ≡ true → Pays s r
+pub withdrawal-fits : (s : Standing) (r : Record) → fits_as (Ok Kind.Withdrawal) s r ≡ true → Pays s r
 unfolding fits_as
 withdrawal-fits s r h =
     let (g, u) = moves_of r (is_payee r.second && enough s r) h in
@@ -80,11 +78,11 @@ withdrawal-fits s r h =
 
 -- ---- the kind of a record
 -- a claim has the kind number 1
-pub claim_kind : (r : Record) → kind_of r ≡ Kind.claim → eqb r.kind 1 ≡ true
-unfolding kind_of
+pub claim_kind : (r : Record) → kind_of r ≡ Ok Kind.Claim → eqb r.kind 1 ≡ true
+unfolding numbered_kind
 claim_kind r e = go (eqb r.kind 1) (eqb r.kind 2) (eqb r.kind 3) (eqb r.kind 4) e
   where
-    go : (t u v w : Bool) → cond t Kind.claim (cond u Kind.transfer (cond v Kind.withdrawal (cond w Kind.grant Kind.other))) ≡ Kind.claim → t ≡ true
+    go : (t u v w : Bool) → cond {A = AnyKind} t (Ok Kind.Claim) (cond u (Ok Kind.Transfer) (cond v (Ok Kind.Withdrawal) (cond w (Ok Kind.Grant) (Err (record {}))))) ≡ Ok Kind.Claim → t ≡ true
     go true u v w e = refl
     go false true v w e = cc
     go false false true w e = cc
@@ -92,6 +90,6 @@ claim_kind r e = go (eqb r.kind 1) (eqb r.kind 2) (eqb r.kind 3) (eqb r.kind 4) 
     go false false false false e = cc
 
 -- the kind number 3 is a withdrawal's
-pub withdrawal_kind : (r : Record) → is_withdrawal r ≡ true → kind_of r ≡ Kind.withdrawal
-unfolding kind_of
+pub withdrawal_kind : (r : Record) → is_withdrawal r ≡ true → kind_of r ≡ Ok Kind.Withdrawal
+unfolding numbered_kind
 withdrawal_kind r e = rw (eqb-true r.kind 3 e)

@@ -1,4 +1,5 @@
 -- How many lots and pieces there can be: never more than the history has records.
+use Rattle.std.specs.Prelude.{Ok, Err}
 use Prim.Native.Nat.{ℕ, suc, ◌+◌, ◌-◌, ◌≤◌}
 use mathlib.Core.Bool.{Bool, true, false, cond}
 use mathlib.Core.List.{List, [], ◌∷◌}
@@ -8,7 +9,9 @@ use lib.ListN.{length, length-append, length-map}
 use Rattle.rules.specs.declared.rows.Record.{Record}
 use Rattle.rules.specs.declared.rows.Nonce.{Nonce}
 use Rattle.rules.specs.declared.rows.Lot.{Lot}
-use Rattle.rules.specs.History.{Kind, kind_of, is_withdrawal}
+use Rattle.rules.specs.declared.rows.Kind.{Kind}
+use Rattle.rules.specs.Kinds.{AnyKind}
+use Rattle.rules.specs.History.{kind_of, is_withdrawal}
 use Rattle.rules.specs.Lots.{in_line, line, taken, taken_by, lots_as, lots_after, replay, trace_from, pieces}
 use Rattle.lots.proofs.ListLaws.{length-those}
 use Rattle.lots.proofs.Taking.{takes, takes_count, takes_few}
@@ -22,13 +25,13 @@ unfolding line
 line-count m a ls = length-those (in_line m a) ls
 
 -- no record makes more than one lot more
-pub lots-count : (k : Kind) (ls : List Lot) (r : Record) → length (lots_as k ls r) ≤ length ls + 1
+pub lots-count : (k : AnyKind) (ls : List Lot) (r : Record) → length (lots_as k ls r) ≤ length ls + 1
 unfolding lots_as
-lots-count Kind.claim ls r = rw length-append (omega arith)
-lots-count Kind.transfer ls r = simp (length-append, length-map) (omega (arith, takes_count (takes r.first r.asset r.amount ls)))
-lots-count Kind.withdrawal ls r = omega (arith, takes_count (takes r.first r.asset r.amount ls))
-lots-count Kind.grant ls r = omega arith
-lots-count Kind.other ls r = omega arith
+lots-count (Ok Kind.Claim) ls r = rw length-append (omega arith)
+lots-count (Ok Kind.Transfer) ls r = simp (length-append, length-map) (omega (arith, takes_count (takes r.first r.asset r.amount ls)))
+lots-count (Ok Kind.Withdrawal) ls r = omega (arith, takes_count (takes r.first r.asset r.amount ls))
+lots-count (Ok Kind.Grant) ls r = omega arith
+lots-count (Err e) ls r = omega arith
 
 -- from any lots on, each record adds at most one
 replay-count-from : (ls : List Lot) (h : List Record) → length (replay ls h) ≤ length ls + length h

@@ -1,4 +1,5 @@
 -- What each record does to the lines, in terms of one line alone.
+use Rattle.std.specs.Prelude.{Ok}
 use Prim.Native.Nat.{ℕ}
 use mathlib.Core.Path.{◌≡◌, refl, ap, ap₂, ◌∙◌}
 use mathlib.Core.Bool.{Bool, true, false, not, cond, and-eq-true_iff}
@@ -8,7 +9,8 @@ use borrow.Author.Tests.{eqb-true}
 use Rattle.rules.specs.declared.rows.Record.{Record}
 use Rattle.rules.specs.declared.rows.Lot.{Lot}
 use Rattle.rules.specs.Lists.{all, those}
-use Rattle.rules.specs.History.{Kind, by_first, by_second, differ}
+use Rattle.rules.specs.declared.rows.Kind.{Kind}
+use Rattle.rules.specs.History.{by_first, by_second, differ}
 use Rattle.rules.specs.Lots.{in_line, line, of_member, taken, left, taken_by, left_by, lot_of, lots_as}
 use Rattle.lots.specs.Traces.{same_line, taken_line, left_line}
 use Rattle.lots.proofs.Fits.{ends_apart}
@@ -59,7 +61,7 @@ pieces_moved m a s n b ps h = go (same_line s a n b) refl
 
 -- ---- what a record does to each line
 -- after a claim: the line of its member and asset has the lot at its end, every other is as it was
-pub line-claim : (n b : ℕ) (ls : List Lot) (r : Record) → line n b (lots_as Kind.claim ls r) ≡ cond (by_first n b r) (line n b ls ++ (lot_of r ∷ [])) (line n b ls)
+pub line-claim : (n b : ℕ) (ls : List Lot) (r : Record) → line n b (lots_as (Ok Kind.Claim) ls r) ≡ cond (by_first n b r) (line n b ls ++ (lot_of r ∷ [])) (line n b ls)
 unfolding line lots_as those
 line-claim n b ls r = those-append (in_line n b) ls (lot_of r ∷ []) ∙ go (by_first n b r)
   where
@@ -69,7 +71,7 @@ line-claim n b ls r = those-append (in_line n b) ls (lot_of r ∷ []) ∙ go (by
 
 -- after a transfer: the receiver's line is what it was and then the pieces, with their new owner, in the order taken; the sender's is what is left; every other is as it was
 pub line-transfer : (n b : ℕ) (ls : List Lot) (r : Record) → differ r ≡ true
-    → line n b (lots_as Kind.transfer ls r)
+    → line n b (lots_as (Ok Kind.Transfer) ls r)
     ≡ cond (by_second n b r) (line n b ls ++ map (of_member r.second) (taken_line r.amount (line r.first r.asset ls)))
     (cond (by_first n b r) (left_line r.amount (line n b ls)) (line n b ls))
 unfolding lots_as line
@@ -89,6 +91,6 @@ line-transfer n b ls r d =
     go false false e f = append-nil (line n b ls)
 
 -- after a withdrawal: the payer's line is what is left, every other is as it was
-pub line-withdrawal : (n b : ℕ) (ls : List Lot) (r : Record) → line n b (lots_as Kind.withdrawal ls r) ≡ cond (by_first n b r) (left_line r.amount (line n b ls)) (line n b ls)
+pub line-withdrawal : (n b : ℕ) (ls : List Lot) (r : Record) → line n b (lots_as (Ok Kind.Withdrawal) ls r) ≡ cond (by_first n b r) (left_line r.amount (line n b ls)) (line n b ls)
 unfolding lots_as
 line-withdrawal n b ls r = line-left r.first r.asset n b r.amount ls

@@ -1,4 +1,5 @@
 -- What lines are worth: taking parts a line's worth, with enough in the line it takes exactly the amount, and each record changes a line's worth as provenance counts it.
+use Rattle.std.specs.Prelude.{Ok}
 use Prim.Native.Nat.{ℕ, ◌+◌, ◌-◌, ◌≤◌}
 use mathlib.Core.Path.{◌≡◌, refl, sym, ap, ap₂, ◌∙◌}
 use mathlib.Core.Bool.{Bool, true, false, cond, and-eq-true_iff}
@@ -9,7 +10,8 @@ use borrow.Author.Tests.{eqb-true}
 use Rattle.rules.specs.declared.rows.Record.{Record}
 use Rattle.rules.specs.declared.rows.Lot.{Lot}
 use Rattle.rules.specs.Lists.{those, sum_of}
-use Rattle.rules.specs.History.{Kind, by_first, by_second, differ, counted_as}
+use Rattle.rules.specs.declared.rows.Kind.{Kind}
+use Rattle.rules.specs.History.{by_first, by_second, differ, counted_as}
 use Rattle.rules.specs.Lots.{in_line, line, of_member, taken, left, taken_by, left_by, lot_of, lots_as}
 use Rattle.lots.specs.Traces.{same_line, worth, line_worth}
 use Rattle.lots.proofs.Fits.{ends_apart}
@@ -63,7 +65,7 @@ append-worth n b ls rs = ap worth (those-append (in_line n b) ls rs) ∙ sum-app
 
 -- ---- a record changes what a line is worth as provenance counts it
 -- a claim, always
-pub claim-worth : (n b : ℕ) (ls : List Lot) (r : Record) → line_worth n b (lots_as Kind.claim ls r) ≡ counted_as Kind.claim n b r (line_worth n b ls)
+pub claim-worth : (n b : ℕ) (ls : List Lot) (r : Record) → line_worth n b (lots_as (Ok Kind.Claim) ls r) ≡ counted_as (Ok Kind.Claim) n b r (line_worth n b ls)
 unfolding lots_as counted_as
 claim-worth n b ls r = append-worth n b ls (lot_of r ∷ []) ∙ unfold line those in go (by_first n b r)
   where
@@ -73,7 +75,7 @@ claim-worth n b ls r = append-worth n b ls (lot_of r ∷ []) ∙ unfold line tho
 
 -- a transfer between two members, with enough in the sender's line
 pub transfer-worth : (n b : ℕ) (ls : List Lot) (r : Record) → differ r ≡ true → r.amount ≤ line_worth r.first r.asset ls
-    → line_worth n b (lots_as Kind.transfer ls r) ≡ counted_as Kind.transfer n b r (line_worth n b ls)
+    → line_worth n b (lots_as (Ok Kind.Transfer) ls r) ≡ counted_as (Ok Kind.Transfer) n b r (line_worth n b ls)
 unfolding lots_as counted_as
 transfer-worth n b ls r d h =
     append-worth n b (left_by r ls) (map (of_member r.second) (taken_by r ls))
@@ -90,6 +92,6 @@ transfer-worth n b ls r d h =
 
 -- a withdrawal, with enough in the payer's line
 pub withdrawal-worth : (n b : ℕ) (ls : List Lot) (r : Record) → r.amount ≤ line_worth r.first r.asset ls
-    → line_worth n b (lots_as Kind.withdrawal ls r) ≡ counted_as Kind.withdrawal n b r (line_worth n b ls)
+    → line_worth n b (lots_as (Ok Kind.Withdrawal) ls r) ≡ counted_as (Ok Kind.Withdrawal) n b r (line_worth n b ls)
 unfolding lots_as counted_as
 withdrawal-worth n b ls r h = left-worth r.first r.asset n b r.amount ls h

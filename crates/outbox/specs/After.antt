@@ -1,5 +1,5 @@
 -- The desk after a withdrawal, a send and a settlement: what the rules do to its lists, and the counts of the tables' rows after it.
-use Rattle.std.specs.Prelude.{ℕ, ◌+◌, ◌-◌, ◌≤◌, ◌<◌, ◌≡◌, true, List, get_or}
+use Rattle.std.specs.Prelude.{◌+◌, ◌-◌, ◌≤◌, ◌<◌, ◌≡◌, true}
 use Rattle.rules.specs.declared.desk.Desk.{Desk}
 use Rattle.rules.specs.declared.rows.Payment.{Payment}
 use Rattle.rules.specs.declared.calls.WithdrawalFields.{WithdrawalFields}
@@ -9,10 +9,6 @@ use Rattle.rules.specs.Frame.{up_to_ceiling}
 use Rattle.rules.specs.Effects.{balance, debit, raised}
 use Rattle.rules.specs.Facts.{Within}
 use Rattle.desk.specs.Kept.{desk_with, with_next, with_rows}
-
--- the payment whose four numbers lie in a table from a place on
-abbrev pub payment_at : List ℕ → ℕ → Payment
-payment_at t at = record { asset = get_or t at 0; amount = get_or t (at + 1) 0; payee = get_or t (at + 2) 0; nonce = record { 0 = get_or t (at + 3) 0 } }
 
 unfoldable pub withdrawn_desk : Desk → WithdrawalFields → Desk
 withdrawn_desk d w =

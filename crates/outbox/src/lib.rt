@@ -1,274 +1,228 @@
 // The outbox: withdraw, send and settle. Each call is the test of the whole frame, its table of refusals (`.._reply`),
 // which is handed what it reads, and then what is done where nothing refuses it (`.._done`). Each says in one equation,
-// of all three tables that it is lent, what it answers and what it leaves of the desk and every row.
+// of all three tables that it is lent, what it answers and what it leaves of the desk and every row. A table that a
+// call does not write is lent to be read, so a caller sees that it stays.
+// The calls have the test of the frame and the return in common; each has its own tables, table of refusals and
+// clause, so one function for all of them would take two closures and be no shorter.
 #![tactic(auto)]
 
-ghost use Rattle.std.specs.Prelude.{◌≡◌, ◌-◌, ◌*◌, ◌≤◌, length, get_or};
+ghost use Rattle.std.specs.Prelude.{◌≡◌, ◌-◌, ◌≤◌, length, Ok};
 ghost use Rattle.rules.specs.declared.calls.Call.{Call};
+ghost use Rattle.rules.specs.declared.answers.Done.{Done};
 ghost use Rattle.rules.specs.Facts.{Accepted};
-ghost use Rattle.rules.specs.Limits.{outbox_rows};
 ghost use Rattle.rules.specs.Tables.{payment_shape};
 ghost use Rattle.rules.specs.State.{State, payments as paymentsOf};
-ghost use Rattle.rules.specs.Replies.{told, plain, smallest};
+ghost use Rattle.rules.specs.Replies.{told, answered, plainly, plain, smallest};
 ghost use Rattle.rules.specs.Refusals.{table};
 ghost use Rattle.rules.specs.Effects.{oldest};
 ghost use Rattle.rules.specs.Answer.{answer, book_of, outcome_of};
-ghost use Rattle.outbox.specs.After.{CanWithdraw, CanSettle, payment_at, withdrawn_desk, settled_desk};
+ghost use Rattle.tables.specs.Rows.{row_at};
+ghost use Rattle.outbox.specs.After.{CanWithdraw, CanSettle, withdrawn_desk, settled_desk};
 
-use desk::answers::{is_done, refuse};
-use desk::entries::withdrawal_record;
+use desk::answers::refuse;
 use desk::fields::{balance_of, is_amount, is_asset, is_member, is_payee, of_eight};
 use desk::keep::{set_balance, set_of_eight};
-use frames::framed;
-use rules::answers::{Answer, Answered, Refusal};
+use frames::in_frame;
+use rules::answers::Refusal;
+use rules::book::BookView;
 use rules::calls::WithdrawalFields;
 use rules::desk::Desk;
 use rules::limits::{HISTORY_ROWS, OUTBOX_ROWS, PAYMENT_WIDTH};
-use rules::rows::{Nonce, Payment};
-use tables::rows::{put_payment, put_record};
+use rules::rows::{Nonce, Payment, Record};
+use tables::rows::{get, put};
 use tables::take_out;
 
 // Withdraw (member, asset, amount, payee): "asset, amount, payee and the next nonce join the end of
 // the outbox". The answer carries no nonce, and the row no member.
+#[tactic(auto, using(crate::proofs::Laws::withdraw_call), unfolding(rules::specs::Answer::frame_test))]
 pub fn withdraw(
-    d: Desk,
+    desk: &mut Desk,
     inbox: &[u64],
     outbox: &mut [u64],
     history: &mut [u64],
     w: WithdrawalFields,
-) -> Answered
-    ensures { outcome_of result inbox.now outbox.new history.new ≡ answer (book_of d inbox.now outbox.old history.old) (Call.Withdraw w) }
+) -> Result<(), Refusal>
+    ensures { outcome_of (plainly result) (book_of desk.new inbox.now outbox.new history.new) ≡ answer (book_of desk.old inbox.now outbox.old history.old) (Call.Withdraw w) }
 {
-    let is_framed = framed(d, inbox, outbox, history);
-    let own = withdraw_reply(&d.balances, d.counts.payments, d.counts.records, w);
-    let reply = refuse(!is_framed, Refusal::BadBook, own);
-    if !is_done(reply) {
-        return Answered {
-            answer: reply,
-            desk: d,
-        };
-    }
-    withdraw_done(d, inbox, outbox, history, w)
+    let is_framed = in_frame(&BookView {
+        desk,
+        inbox,
+        outbox,
+        history,
+    });
+    refuse(!is_framed, Refusal::BadBook)?;
+    withdraw_reply(&desk.balances, desk.counts.payments, desk.counts.records, w)?;
+    withdraw_done(desk, inbox, outbox, history, w);
+    Ok(())
 }
 
 // Where nothing is refused.
+#[tactic(auto, using(crate::proofs::Laws::withdraw_done))]
 pub fn withdraw_done(
-    d: Desk,
+    desk: &mut Desk,
     inbox: &[u64],
     outbox: &mut [u64],
     history: &mut [u64],
     w: WithdrawalFields,
-) -> Answered
-    requires { Accepted (book_of d inbox.now outbox.old history.old) (Call.Withdraw w) }
-    ensures { outcome_of result inbox.now outbox.new history.new ≡ answer (book_of d inbox.now outbox.old history.old) (Call.Withdraw w) }
+)
+    requires { Accepted (book_of desk.old inbox.now outbox.old history.old) (Call.Withdraw w) }
+    ensures { outcome_of (Ok Done.Plain) (book_of desk.new inbox.now outbox.new history.new) ≡ answer (book_of desk.old inbox.now outbox.old history.old) (Call.Withdraw w) }
 {
-    let counts = d.counts;
-    let nonce = counts.next;
     let payment = Payment {
         asset: w.asset,
         amount: w.amount,
         payee: w.payee,
-        nonce,
+        nonce: desk.counts.next,
     };
-    put_payment(outbox, counts.payments, payment);
-    let entry = withdrawal_record(w);
-    put_record(history, counts.records, entry);
-    let desk = withdrawn(d, w);
-    Answered {
-        answer: Answer::Done,
-        desk,
-    }
+    put(outbox, desk.counts.payments, payment);
+    put(history, desk.counts.records, Record::from(w));
+    keep_withdrawn(desk, w);
 }
 
-// The withdrawal's table of refusals, the largest number first, for a book in frame. It reads the balances and how
+// The withdrawal's table of refusals, the smallest number first, for a book in frame. It reads the balances and how
 // many payments and records there are.
+#[tactic(auto, using(crate::proofs::Laws::withdraw_told))]
 pub fn withdraw_reply(
     balances: &[u64; 128],
     payments: usize,
     records: usize,
     w: WithdrawalFields,
-) -> Answer
-    ensures { (s : State) → s.balances ≡ balances.now → length (paymentsOf s.outside) ≡ payments → length s.history ≡ records → told result ≡ plain (smallest (table s (Call.Withdraw w))) }
+) -> Result<(), Refusal>
+    ensures { (s : State) → s.balances ≡ balances.now → length (paymentsOf s.outside) ≡ payments → length s.history ≡ records → told (plainly result) ≡ plain (smallest (table s (Call.Withdraw w))) }
 {
-    let r = refuse(HISTORY_ROWS <= records, Refusal::HistoryFull, Answer::Done);
-    let r = refuse(OUTBOX_ROWS <= payments, Refusal::OutboxFull, r);
-    let r = refuse(
+    refuse(!is_member(w.member), Refusal::BadMember)?;
+    refuse(!is_asset(w.asset), Refusal::BadAsset)?;
+    refuse(!is_amount(w.amount), Refusal::BadAmount)?;
+    refuse(!is_payee(w.payee), Refusal::BadPayee)?;
+    refuse(
         balance_of(balances, w.member, w.asset) < w.amount,
         Refusal::Short,
-        r,
-    );
-    let r = refuse(!is_payee(w.payee), Refusal::BadPayee, r);
-    let r = refuse(!is_amount(w.amount), Refusal::BadAmount, r);
-    let r = refuse(!is_asset(w.asset), Refusal::BadAsset, r);
-    refuse(!is_member(w.member), Refusal::BadMember, r)
+    )?;
+    refuse(OUTBOX_ROWS <= payments, Refusal::OutboxFull)?;
+    refuse(HISTORY_ROWS <= records, Refusal::HistoryFull)
 }
 
 // The balance falls, "the next nonce rises by 1", and there is one payment and one record more.
-fn withdrawn(d: Desk, w: WithdrawalFields) -> Desk
-    requires { CanWithdraw d w }
-    ensures { result ≡ withdrawn_desk d w }
+#[tactic(auto, using(crate::proofs::Laws::balances), unfolding(crate::specs::After::withdrawn_desk, rules::specs::Effects::debit))]
+fn keep_withdrawn(desk: &mut Desk, w: WithdrawalFields)
+    requires { CanWithdraw desk.old w }
+    ensures { desk.new ≡ withdrawn_desk desk.old w }
 {
-    let mut after = d;
-    let held = balance_of(&after.balances, w.member, w.asset);
-    let less = held - w.amount;
-    set_balance(&mut after.balances, w.member, w.asset, less);
-    let mut counts = d.counts;
-    let given = counts.next;
-    let number = given.0 + 1;
-    let next = Nonce(number);
-    counts.next = next;
-    counts.payments += 1;
-    counts.records += 1;
-    after.counts = counts;
-    after
+    let less = balance_of(&desk.balances, w.member, w.asset) - w.amount;
+    set_balance(&mut desk.balances, w.member, w.asset, less);
+    desk.counts.next.0 += 1;
+    desk.counts.payments += 1;
+    desk.counts.records += 1;
 }
 
 // Send: "the oldest waiting payment becomes in flight; the answer gives nonce, asset, amount, payee.
 // It keeps its outbox row." So no table is lent to be written.
-pub fn send(d: Desk, inbox: &[u64], outbox: &[u64], history: &[u64]) -> Answered
-    ensures { outcome_of result inbox.now outbox.now history.now ≡ answer (book_of d inbox.now outbox.now history.now) Call.Send }
+#[tactic(auto, using(crate::proofs::Laws::send_call), unfolding(rules::specs::Answer::frame_test))]
+pub fn send(
+    desk: &mut Desk,
+    inbox: &[u64],
+    outbox: &[u64],
+    history: &[u64],
+) -> Result<Payment, Refusal>
+    ensures { outcome_of (answered Done.Sent result) (book_of desk.new inbox.now outbox.now history.now) ≡ answer (book_of desk.old inbox.now outbox.now history.now) Call.Send }
 {
-    let is_framed = framed(d, inbox, outbox, history);
-    let waiting = count_waiting(d.counts.payments, d.counts.inflight);
-    let own = send_reply(waiting);
-    let found = refuse(!is_framed, Refusal::BadBook, own);
-    if !is_done(found) {
-        return Answered {
-            answer: found,
-            desk: d,
-        };
-    }
-    send_done(d, inbox, outbox, history)
+    let is_framed = in_frame(&BookView {
+        desk,
+        inbox,
+        outbox,
+        history,
+    });
+    refuse(!is_framed, Refusal::BadBook)?;
+    send_reply(count_waiting(desk.counts.payments, desk.counts.inflight))?;
+    Ok(send_done(desk, inbox, outbox, history))
 }
 
 // Where nothing is refused.
-pub fn send_done(d: Desk, inbox: &[u64], outbox: &[u64], history: &[u64]) -> Answered
-    requires { Accepted (book_of d inbox.now outbox.now history.now) Call.Send }
-    ensures { outcome_of result inbox.now outbox.now history.now ≡ answer (book_of d inbox.now outbox.now history.now) Call.Send }
+#[tactic(auto, using(crate::proofs::Laws::send_done))]
+pub fn send_done(desk: &mut Desk, inbox: &[u64], outbox: &[u64], history: &[u64]) -> Payment
+    requires { Accepted (book_of desk.old inbox.now outbox.now history.now) Call.Send }
+    ensures { outcome_of (Ok (Done.Sent result)) (book_of desk.new inbox.now outbox.now history.now) ≡ answer (book_of desk.old inbox.now outbox.now history.now) Call.Send }
 {
-    let at = d.counts.inflight * PAYMENT_WIDTH;
-    let payment = payment_at(outbox, at);
-    let sent = Answer::Sent(payment);
-    let mut after = d;
-    let mut counts = d.counts;
-    counts.inflight += 1;
-    after.counts = counts;
-    Answered {
-        answer: sent,
-        desk: after,
-    }
+    let payment = get(outbox, desk.counts.inflight);
+    desk.counts.inflight += 1;
+    payment
 }
 
 // How many payments wait: those of the outbox but the ones in flight, on any two numbers.
 pub fn count_waiting(payments: usize, inflight: usize) -> usize
     ensures { result ≡ payments - inflight }
 {
-    if payments <= inflight {
-        return 0;
-    }
-    payments - inflight
+    payments.saturating_sub(inflight)
 }
 
 // The send's table of refusals, for a book in frame. It reads how many wait.
-pub fn send_reply(waiting: usize) -> Answer
-    ensures { (s : State) → length s.outside.waiting ≡ waiting → told result ≡ plain (smallest (table s Call.Send)) }
+#[tactic(auto, using(crate::proofs::Laws::send_told))]
+pub fn send_reply(waiting: usize) -> Result<(), Refusal>
+    ensures { (s : State) → length s.outside.waiting ≡ waiting → told (plainly result) ≡ plain (smallest (table s Call.Send)) }
 {
-    refuse(waiting == 0, Refusal::NothingWaiting, Answer::Done)
+    refuse(waiting == 0, Refusal::NothingWaiting)
 }
 
 // Settle (nonce): the oldest payment in flight "leaves the outbox and the asset's settled total
 // grows". A nonce is asked for, so no deposit number can be settled.
-pub fn settle(d: Desk, inbox: &[u64], outbox: &mut [u64], history: &[u64], n: Nonce) -> Answered
-    ensures { outcome_of result inbox.now outbox.new history.now ≡ answer (book_of d inbox.now outbox.old history.now) (Call.Settle n) }
-{
-    let is_framed = framed(d, inbox, outbox, history);
-    let due = first_nonce(outbox);
-    let own = settle_reply(d.counts.inflight, due, n);
-    let verdict = refuse(!is_framed, Refusal::BadBook, own);
-    if !is_done(verdict) {
-        return Answered {
-            answer: verdict,
-            desk: d,
-        };
-    }
-    settle_done(d, inbox, outbox, history, n)
-}
-
-// Where nothing is refused.
-pub fn settle_done(
-    d: Desk,
+#[tactic(auto, using(crate::proofs::Laws::settle_call), unfolding(rules::specs::Answer::frame_test))]
+pub fn settle(
+    desk: &mut Desk,
     inbox: &[u64],
     outbox: &mut [u64],
     history: &[u64],
     n: Nonce,
-) -> Answered
-    requires { Accepted (book_of d inbox.now outbox.old history.now) (Call.Settle n) }
-    ensures { outcome_of result inbox.now outbox.new history.now ≡ answer (book_of d inbox.now outbox.old history.now) (Call.Settle n) }
+) -> Result<(), Refusal>
+    ensures { outcome_of (plainly result) (book_of desk.new inbox.now outbox.new history.now) ≡ answer (book_of desk.old inbox.now outbox.old history.now) (Call.Settle n) }
 {
-    let payment = payment_at(outbox, 0);
-    take_out(outbox, PAYMENT_WIDTH, 0, d.counts.payments);
-    let desk = settled(d, payment);
-    Answered {
-        answer: Answer::Done,
+    let is_framed = in_frame(&BookView {
         desk,
-    }
+        inbox,
+        outbox,
+        history,
+    });
+    refuse(!is_framed, Refusal::BadBook)?;
+    settle_reply(desk.counts.inflight, first_nonce(outbox), n)?;
+    settle_done(desk, inbox, outbox, history, n);
+    Ok(())
+}
+
+// Where nothing is refused.
+#[tactic(auto, using(crate::proofs::Laws::settle_done))]
+pub fn settle_done(desk: &mut Desk, inbox: &[u64], outbox: &mut [u64], history: &[u64], n: Nonce)
+    requires { Accepted (book_of desk.old inbox.now outbox.old history.now) (Call.Settle n) }
+    ensures { outcome_of (Ok Done.Plain) (book_of desk.new inbox.now outbox.new history.now) ≡ answer (book_of desk.old inbox.now outbox.old history.now) (Call.Settle n) }
+{
+    let payment = get(outbox, 0);
+    take_out(outbox, PAYMENT_WIDTH, 0, desk.counts.payments);
+    keep_settled(desk, payment);
 }
 
 // The nonce of the outbox's first row, and 0 where there is none.
 pub fn first_nonce(outbox: &[u64]) -> Nonce
-    ensures { result ≡ (payment_at outbox.now 0).nonce }
+    ensures { result ≡ (row_at payment_shape 0 outbox.now).nonce }
 {
-    Nonce(number_at(outbox, 3))
+    get::<Payment>(outbox, 0).nonce
 }
 
 // The settlement's table of refusals, for a book in frame. It reads how many are in flight and, where some are, the
 // nonce of the oldest.
-pub fn settle_reply(inflight: usize, due: Nonce, n: Nonce) -> Answer
-    ensures { (s : State) → length s.outside.inflight ≡ inflight → (1 ≤ inflight → (oldest s.outside.inflight).nonce ≡ due) → told result ≡ plain (smallest (table s (Call.Settle n))) }
+#[tactic(auto, using(crate::proofs::Laws::settle_told))]
+pub fn settle_reply(inflight: usize, due: Nonce, n: Nonce) -> Result<(), Refusal>
+    ensures { (s : State) → length s.outside.inflight ≡ inflight → (1 ≤ inflight → (oldest s.outside.inflight).nonce ≡ due) → told (plainly result) ≡ plain (smallest (table s (Call.Settle n))) }
 {
-    refuse(
-        (inflight == 0) | (due.0 != n.0),
-        Refusal::NotNext,
-        Answer::Done,
-    )
+    refuse(inflight == 0 || due != n, Refusal::NotNext)
 }
 
 // The settled total of the payment's asset grows by its amount, and there is one payment less, which
 // was in flight.
-fn settled(d: Desk, p: Payment) -> Desk
-    requires { CanSettle d p }
-    ensures { result ≡ settled_desk d p }
+#[tactic(auto, using(crate::proofs::Laws::totals), unfolding(crate::specs::After::settled_desk, rules::specs::Effects::raised, rules::specs::Effects::total))]
+fn keep_settled(desk: &mut Desk, p: Payment)
+    requires { CanSettle desk.old p }
+    ensures { desk.new ≡ settled_desk desk.old p }
 {
-    let mut after = d;
-    let more = of_eight(&after.settled, p.asset) + p.amount;
-    set_of_eight(&mut after.settled, p.asset, more);
-    let mut counts = d.counts;
-    counts.payments -= 1;
-    counts.inflight -= 1;
-    after.counts = counts;
-    after
-}
-
-// The payment whose four numbers lie from a place on.
-fn payment_at(t: &[u64], at: usize) -> Payment
-    requires { at ≤ outbox_rows * payment_shape.width }
-    ensures { result ≡ payment_at t.now at }
-{
-    let asset = number_at(t, at);
-    let amount = number_at(t, at + 1);
-    let payee = number_at(t, at + 2);
-    let nonce = Nonce(number_at(t, at + 3));
-    Payment {
-        asset,
-        amount,
-        payee,
-        nonce,
-    }
-}
-
-// The number at a place of a table, and 0 past its end.
-fn number_at(t: &[u64], k: usize) -> u64
-    ensures { result ≡ get_or t.now k 0 }
-{
-    if k < t.len() { t[k] } else { 0 }
+    let more = of_eight(&desk.settled, p.asset) + p.amount;
+    set_of_eight(&mut desk.settled, p.asset, more);
+    desk.counts.payments -= 1;
+    desk.counts.inflight -= 1;
 }

@@ -1,95 +1,141 @@
-// A page: writing into a buffer of the caller's from a place on. Each function answers the place after
-// what it wrote. Where the buffer ends, what has no room is left out; a caller that has room for the
-// whole of it finds the whole of it (proofs/PageLaws.antt, `put_whole`).
+// A page: a buffer of the caller's that is written from a place on. Where the buffer ends, what has no room is
+// left out; a caller that has room for the whole of it finds the whole of it (proofs/PageLaws.antt, `put_whole`).
 #![tactic(auto)]
 
-ghost use Rattle.std.specs.Prelude.{◌+◌, ◌≤◌, ◌≡◌, [], ◌∷◌, length};
+ghost use Rattle.std.specs.Prelude.{◌-◌, ◌≤◌, ◌≡◌, [], ◌∷◌, length, take};
 ghost use Rattle.rules.specs.Lines.{line_feed, decimal, tabbed};
-ghost use Rattle.pages.specs.Writing.{page, put, laid};
+ghost use Rattle.pages.specs.Writing.{page, put};
 
-pub fn put_byte(out: &mut [u8], at: usize, b: u8) -> usize
-    ensures { page out.new result ≡ put (page out.old at) (b ∷ []) }
-{
-    if at < out.len() {
-        out[at] = b;
-        return at + 1;
-    }
-    at
+use std::marker::Model;
+
+// The bytes, and the place up to which they are written. That place may lie past the end: then there is no room, and
+// nothing more is written.
+#[derive(Drop)]
+pub struct Page<'a> {
+    bytes: &'a mut [u8],
+    upto: usize,
 }
 
-pub fn put_bytes(out: &mut [u8], at: usize, text: &[u8]) -> usize
-    ensures { page out.new result ≡ put (page out.old at) text.now }
-{
-    let mut p = at;
-    let mut i: usize = 0;
-    while i < text.len() {
-        p = put_byte(out, p, text[i]);
-        i += 1;
-    }
-    p
+impl<'a> Model for Page<'a> {
+    ghost use Rattle.pages.specs.Writing.{Page};
+
+    ghost Value = { Page };
+
+    ghost view = { λ p. record { bytes = p.bytes.now; upto = p.upto } };
 }
 
-// A number's decimal digits: at their places on the page where there is room for all of them.
-pub fn put_decimal(out: &mut [u8], at: usize, n: u64) -> usize
-    ensures { page out.new result ≡ put (page out.old at) (decimal n) }
-{
-    if n < 10 {
-        return put_byte(out, at, 48 + n as u8);
+impl<'a> Page<'a> {
+    pub fn new(bytes: &'a mut [u8], upto: usize) -> Page<'a>
+        ensures { result ≡ page bytes.old upto }
+    {
+        Page { bytes, upto }
     }
-    let k = places(n);
-    if at < out.len() {
-        if k <= out.len() - at {
-            spell(out, at, k, n);
-            return at + k;
+
+    #[tactic(auto, unfolding(crate::specs::Writing::put, crate::specs::Writing::put_byte))]
+    pub fn put_byte(&mut self, b: u8)
+        ensures { self.new ≡ put self.old (b ∷ []) }
+    {
+        if self.upto < self.bytes.len() {
+            self.bytes[self.upto] = b;
+            self.upto += 1;
         }
     }
-    let mut text = [0u8; 20];
-    spell(&mut text, 0, k, n);
-    put_bytes(out, at, &text[..k])
+
+    #[tactic(auto, using(crate::proofs::PageLaws::put_more), unfolding(crate::specs::Writing::put))]
+    pub fn put_bytes(&mut self, text: &[u8])
+        ensures { self.new ≡ put self.old text.now }
+    {
+        for b in text {
+            self.put_byte(*b);
+        }
+    }
+
+    // A number's decimal digits: at their places on the page where there is room for all of them. They are spelled by
+    // hand: neither `write!` nor `Display` promises a text, and the clause names every byte.
+    pub fn put_decimal(&mut self, n: u64)
+        ensures { self.new ≡ put self.old (decimal n) }
+    {
+        if n < 10 {
+            self.put_byte(b'0' + n as u8);
+            return;
+        }
+        let k = places(n);
+        if k <= self.room() {
+            spell(&mut self.bytes[self.upto..self.upto + k], n);
+            self.upto += k;
+            return;
+        }
+        let mut text = [0u8; 20];
+        let digits = &mut text[..k];
+        spell(digits, n);
+        self.put_bytes(digits);
+    }
+
+    // A further value of a line: its tab, and then its digits.
+    #[tactic(auto, using(crate::proofs::PageLaws::put_tabbed))]
+    pub fn put_value(&mut self, n: u64)
+        ensures { self.new ≡ put self.old (tabbed (n ∷ [])) }
+    {
+        self.put_byte(b'\t');
+        self.put_decimal(n);
+    }
+
+    pub fn put_line_feed(&mut self)
+        ensures { self.new ≡ put self.old (line_feed ∷ []) }
+    {
+        self.put_byte(b'\n');
+    }
+
+    // How many bytes are left.
+    pub fn room(&self) -> usize
+        ensures { result ≡ length self.now.bytes - self.now.upto }
+    {
+        self.bytes.len().saturating_sub(self.upto)
+    }
+
+    // What is written.
+    pub fn written(&self) -> &[u8]
+        ensures { result.now ≡ take self.now.upto self.now.bytes }
+    {
+        &self.bytes[..self.upto.min(self.bytes.len())]
+    }
+
+    // Nothing is written: the bytes stay, and the next ones are written over them.
+    pub fn clear(&mut self)
+        ensures { self.new ≡ page self.old.bytes 0 }
+    {
+        self.upto = 0;
+    }
+
+    // The buffer, given back.
+    pub fn into_bytes(self) -> &'a mut [u8]
+        ensures { result.now ≡ self.entry.bytes }
+    {
+        let Page { bytes, upto: _ } = self;
+        bytes
+    }
 }
 
-// How many digits a number has, counted in pairs.
+// How many digits a number has.
+#[tactic(auto, using(crate::proofs::PageLaws::length_places))]
 fn places(n: u64) -> usize
-    ensures { result ≡ length (decimal n) }
+    ensures spelled { result ≡ length (decimal n) }
+    ensures some { 1 ≤ result }
+    ensures few { result ≤ 20 }
 {
-    let mut k: usize = 1;
+    n.max(1).ilog10() as usize + 1
+}
+
+// A number's digits, the last one first, in a part of a buffer that has just so many places. The loop goes over the
+// places: of `iter_mut().rev()` an invariant does not see what is written through it (tried).
+#[tactic(auto, using(crate::proofs::PageLaws::spelling_starts))]
+fn spell(digits: &mut [u8], n: u64)
+    requires { length digits.old ≡ length (decimal n) }
+    ensures { digits.new ≡ decimal n }
+{
     let mut rest = n;
-    while 100 <= rest {
-        rest = rest / 100;
-        k += 2;
+    for i in (0..digits.len()).rev() {
+        digits[i] = b'0' + (rest % 10) as u8;
+        rest /= 10;
     }
-    if 10 <= rest {
-        return k + 1;
-    }
-    k
-}
-
-// A number's k digits from a place on, the last one first.
-fn spell(out: &mut [u8], at: usize, k: usize, n: u64)
-    requires k_value { k ≡ length (decimal n) }
-    requires k_in_bounds { at + k ≤ length out.old }
-    ensures { out.new ≡ laid out.old at (decimal n) }
-{
-    let mut p = at + k;
-    let mut rest = n;
-    while 10 <= rest {
-        p -= 1;
-        out[p] = 48 + (rest % 10) as u8;
-        rest = rest / 10;
-    }
-    out[p - 1] = 48 + rest as u8;
-}
-
-// A further value of a line: its tab, and then its digits.
-pub fn put_value(out: &mut [u8], at: usize, n: u64) -> usize
-    ensures { page out.new result ≡ put (page out.old at) (tabbed (n ∷ [])) }
-{
-    let p = put_byte(out, at, 9);
-    put_decimal(out, p, n)
-}
-
-pub fn put_line_feed(out: &mut [u8], at: usize) -> usize
-    ensures { page out.new result ≡ put (page out.old at) (line_feed ∷ []) }
-{
-    put_byte(out, at, 10)
 }

@@ -1,172 +1,187 @@
--- What a session begins with lets its first read be fed; part after part of a read; and turn after turn.
-use Rattle.std.proofs.Common.{ℕ, ◌+◌, ◌-◌, ◌^◌, ◌≤◌, ◌<◌, ◌≡◌, ◌⊎◌, inl, inr, Bool, true, false, List, [], ◌++◌, length, take, refl, sym, ap, ◌∙◌, subst, length-append, append_assoc, append-nil, take-append-drop, arith, Option, None, Some, IfSome, Result, Ok, Err, IsOk}
+-- Part after part of a read, and turn after turn.
+use Rattle.std.proofs.Common.{ℕ, ◌+◌, ◌-◌, ◌^◌, ◌≤◌, ◌<◌, ◌≡◌, ◌⊎◌, inl, inr, Bool, true, false, List, [], ◌∷◌, ◌++◌, length, take, drop, refl, sym, ap, ◌∙◌, subst, length-append, append_assoc, append-nil, take-append-drop, length-set, arith, Option, None, Some, IfSome, is_some, Result, Ok, Err, IsOk, IsErr, is_ok, MatchResult}
 use Rattle.std.proofs.lemmas.Bool.{false≢true}
-use lib.Seq.{take-add}
-use Rattle.std.proofs.lemmas.List.{take_rest}
 use Rattle.std.specs.Io.{ReadsAtMost}
 use Rattle.std.specs.Io.KnownBytes.{Appends, Consumes, IsAtEnd, ReadConsumes}
 use Rattle.std.proofs.KnownBytes.{Appends-nil, Consumes-nil, Consumes-trans, Consumes-kept}
-use Rattle.std.specs.declared.io.Error.{Error}
-use Rattle.rules.specs.Limits.{most_held}
-use Rattle.rules.specs.declared.answers.Tally.{Tally}
+use Rattle.std.specs.ControlFlow.{break_value}
+use Rattle.std.specs.declared.ops.ControlFlow.TheVariants.{Continue, Break}
 use Rattle.runner.specs.Machine.{Machine, start, stopped, feeds, writes, closing}
-use Rattle.runner.specs.declared.feed.Feeding.{Feeding}
-use Rattle.runner.specs.Feeding.{fed_machine, Ready, Begun}
 use Rattle.runner.proofs.Cuts.{feeds-append, writes-append, feeds-stopped, writes-stopped, machine-transcript}
-use Rattle.program.specs.declared.Turn.{Turn}
-use Rattle.program.specs.Turns.{given, Answers, Passes, begun_machine, AppendsPart, Wrote, text_for, IsOver, Session, WritesTranscript}
-use Rattle.program.proofs.Writing.{rest_of, part_wider, wrote_all, wrote_then}
+use Rattle.pages.specs.Writing.{Page, page, put, put_byte}
+use Rattle.program.specs.Turns.{Next, given, Answers, Passes, AppendsPart, Wrote, TakesTurn, text_for, IsOver, Session, WritesTranscript}
+use Rattle.std.specs.declared.io.Error.{Error}
+use Rattle.program.specs.declared.Failed.{Failed}
+use Rattle.program.proofs.Writing.{part_wider, wrote_all, part_then, wrote_then, cut_more}
 
-pub begun-ready : (f : Feeding) (hold : List ℕ) → Begun f → length hold ≡ most_held → Ready f hold
-begun-ready f hold b l =
-    let d : f.running.tally.done ≡ 0 = ap (λ (t : Tally). t.done) b.tally in
-    let o : f.running.tally.other ≡ 0 = ap (λ (t : Tally). t.other) b.tally in
-    let n = b.line in
-    record {
-      counted = record { done = omega (arith, d, n); other = omega (arith, o, n); few = omega (arith, n) };
-      held = omega (arith, b.held);
-      size = l;
-    }
+-- ---- a page keeps its length
+pub put_keeps : (p : Page) (text : List ℕ) → length (put p text).bytes ≡ length p.bytes
+unfolding put put_byte
+put_keeps p [] = refl
+put_keeps p (b ∷ bs) = put_keeps (put_byte p b) bs ∙ length-set p.bytes p.upto b
 
--- and it is the machine that nothing is fed yet
-pub begun-machine : (f : Feeding) (inbox outbox history hold : List ℕ) → Begun f → fed_machine f inbox outbox history hold ≡ begun_machine inbox outbox history
-begun-machine f inbox outbox history hold b = rw (b.desk, b.tally, b.line, b.held)
+-- and a text that begins a page is what stands on it
+pub page_text : (p : Page) {bytes text shown : List ℕ} → p ≡ page bytes 0 → shown ≡ take p.upto p.bytes ++ text → shown ≡ text
+page_text p e h = rw e at h
 
--- ---- part after part of a read
-module _ (m : Machine) (chunk : List ℕ) (from n : ℕ) {m' : Machine} (e : m' ≡ feeds m (take from chunk)) where
-  front_more : take from chunk ++ take n (rest_of chunk from) ≡ take (from + n) chunk
-  front_more = ap (λ t. take from chunk ++ take n t) (take_rest chunk from) ∙ sym (take-add from n chunk)
+-- ---- some bytes are fed, and what they are answered is written
+pub record Fed (m now : Machine) (a b : Option (List ℕ)) (bytes : List ℕ) : Type 0 where
+  pub fed : now ≡ feeds m bytes
+  pub wrote : Appends a b (writes m bytes)
 
-  pub part_fed : {m'' : Machine} → m'' ≡ feeds m' (take n (rest_of chunk from)) → m'' ≡ feeds m (take (from + n) chunk)
-  part_fed f =
-      f ∙ ap (λ x. feeds x (take n (rest_of chunk from))) e ∙ sym (feeds-append m (take from chunk) (take n (rest_of chunk from))) ∙ ap (feeds m) front_more
+-- no byte
+pub fed_none : (m now : Machine) (a : Option (List ℕ)) → now ≡ m → Fed m now a a []
+unfolding feeds writes
+fed_none m now a e = record { fed = e; wrote = Appends-nil a }
 
-  pub part_written : writes m (take from chunk) ++ writes m' (take n (rest_of chunk from)) ≡ writes m (take (from + n) chunk)
-  part_written =
-      ap (λ x. writes m (take from chunk) ++ writes x (take n (rest_of chunk from))) e ∙ sym (writes-append m (take from chunk) (take n (rest_of chunk from))) ∙ ap (writes m) front_more
+module _ (m now : Machine) (a b c : Option (List ℕ)) (bytes : List ℕ) (f : Fed m now a b bytes) (more : List ℕ) where
+  pub writes_more : writes m bytes ++ writes now more ≡ writes m (bytes ++ more)
+  writes_more = ap (λ x. writes m bytes ++ writes x more) f.fed ∙ sym (writes-append m bytes more)
 
-  -- and this is a beginning of what all of the read is answered
-  pub part_of_all : writes m (take (from + n) chunk) ++ writes (feeds m (take (from + n) chunk)) (rest_of chunk (from + n)) ≡ writes m chunk
-  part_of_all =
-      sym (writes-append m (take (from + n) chunk) (rest_of chunk (from + n))) ∙ ap (λ t. writes m (take (from + n) chunk ++ t)) (take_rest chunk (from + n)) ∙ ap (writes m) (take-append-drop (from + n) chunk)
+  -- of what is written for more of them a beginning
+  pub part_more : AppendsPart b c (writes now more) → AppendsPart a c (writes m (bytes ++ more))
+  part_more = part_then a b c (writes m bytes) (writes now more) writes_more f.wrote
 
-  -- so what is written for this part, after what was written for those before it
-  pub part_wrote : (a b c : Option (List ℕ)) (w : Bool) {shown : List ℕ} → shown ≡ writes m' (take n (rest_of chunk from)) → Appends a b (writes m (take from chunk)) → Wrote b c shown w → Wrote a c (writes m (take (from + n) chunk)) w
-  part_wrote a b c w s h g = wrote_then a b c (writes m (take from chunk)) (writes m' (take n (rest_of chunk from))) part_written h (subst (λ t. Wrote b c t w) s g)
-
-  -- and where that failed, a beginning of it
-  pub part_short : (a b c : Option (List ℕ)) (w : Bool) {shown : List ℕ} → shown ≡ writes m' (take n (rest_of chunk from)) → Appends a b (writes m (take from chunk)) → Wrote b c shown w → Wrote a c (writes m chunk) false
-  part_short a b c w s h g =
+  -- and more are fed
+  pub fed_more : {next : Machine} → next ≡ feeds now more → Appends b c (writes now more) → Fed m next a c (bytes ++ more)
+  fed_more e h =
       record {
-        part = part_wider a c (writes m (take (from + n) chunk)) (writes (feeds m (take (from + n) chunk)) (rest_of chunk (from + n))) part_of_all (part_wrote a b c w s h g).part;
-        all = λ e. absurd (false≢true e);
+        fed = e ∙ ap (λ x. feeds x more) f.fed ∙ sym (feeds-append m bytes more);
+        wrote = (wrote_then a b c (writes m bytes) (writes now more) writes_more f.wrote true (wrote_all b c (writes now more) true h)).all refl;
       }
 
--- a text that begins a page is what stands on it
-pub page_text : (before text : List ℕ) (at : ℕ) {shown : List ℕ} → at ≡ 0 → shown ≡ take at before ++ text → shown ≡ text
-page_text before text at e h = h ∙ ap (λ n. take n before ++ text) e
+-- ---- part after part of a read: its front is fed, and this is the rest of it
+pub record FrontFed (m now : Machine) (a b : Option (List ℕ)) (chunk rest : List ℕ) : Type 0 where
+  pub front : List ℕ
+  pub cut : front ++ rest ≡ chunk
+  pub fed : Fed m now a b front
+
+pub front_begun : {m now : Machine} {a : Option (List ℕ)} {chunk : List ℕ} → now ≡ m → FrontFed m now a a chunk chunk
+front_begun {m} {now} {a} {chunk} e = record { front = []; cut = refl; fed = fed_none m now a e }
+
+module _ {m now : Machine} {a b c : Option (List ℕ)} {chunk rest : List ℕ} (f : FrontFed m now a b chunk rest) where
+  -- some of the rest is fed
+  pub front_fed : (n : ℕ) {next : Machine} → next ≡ feeds now (take n rest) → Appends b c (writes now (take n rest)) → FrontFed m next a c chunk (take (length rest - n) (drop n rest))
+  front_fed n e h = record { front = f.front ++ take n rest; cut = cut_more f.front rest f.cut n; fed = fed_more m now a b c f.front f.fed (take n rest) e h }
+
+  -- what it is answered could not be written: of the answer to the whole read a beginning is
+  pub front_short : (n : ℕ) {w : Bool} (r : Result Next Failed) → Wrote b c (writes now (take n rest)) w → IsErr r → Wrote a c (writes m chunk) (is_ok r)
+  front_short n (Ok f) h e = absurd (false≢true e)
+  front_short n (Err why) h e =
+      let whole : writes now (take n rest) ++ writes (feeds now (take n rest)) (drop n rest) ≡ writes now rest =
+      sym (writes-append now (take n rest) (drop n rest)) ∙ ap (writes now) (take-append-drop n rest) in
+      let part = part_wider b c (writes now (take n rest)) (writes (feeds now (take n rest)) (drop n rest)) whole h.part in
+      record { part = subst (λ t. AppendsPart a c (writes m t)) f.cut (part_more m now a b c f.front f.fed rest part); all = λ e. absurd (false≢true e) }
 
 -- ---- what a read gave
-pub gave-consumed : (a b : Option (List ℕ)) (r : Result ℕ Error) (buf : List ℕ) → ReadConsumes a b r buf → Consumes a b (given r buf)
-gave-consumed a b (Ok n) buf h = h.0
-gave-consumed a b (Err why) buf h = Consumes-kept a a b [] (Consumes-nil a) h
+pub given_consumed : (a b : Option (List ℕ)) (got : Result ℕ Error) (input : List ℕ) → ReadConsumes a b got input → Consumes a b (given got input)
+given_consumed a b (Ok n) input h = h.0
+given_consumed a b (Err why) input h = Consumes-kept a a b [] (Consumes-nil a) h
 
-pub gave-none : (a b : Option (List ℕ)) (r : Result ℕ Error) (buf : List ℕ) → ReadsAtMost r buf → ReadConsumes a b r buf → IsOk r → given r buf ≡ [] → 0 < length buf → IsAtEnd b
-gave-none a b (Ok n) buf bound h ok e room = h.1 (bound.1 ∙ ap (λ (t : List ℕ). length t) e) room
-gave-none a b (Err why) buf bound h ok e room = absurd (false≢true ok)
+pub given_none : (a b : Option (List ℕ)) (got : Result ℕ Error) (input : List ℕ) → ReadsAtMost got input → ReadConsumes a b got input → IsOk got → given got input ≡ [] → 0 < length input → IsAtEnd b
+given_none a b (Ok n) input moved h ok e some = h.1 (moved.1 ∙ ap (λ (t : List ℕ). length t) e) some
+given_none a b (Err why) input moved h ok e some = absurd (false≢true ok)
 
--- a read that gave no byte: nothing is fed, and nothing is written
-module _ (m : Machine) (bytes : List ℕ) (none : bytes ≡ []) where
-  pub none-fed : m ≡ feeds m bytes
-  unfolding feeds
-  none-fed = rw none refl
+-- what a read answered, where that is told of the same result with another error
+pub got_ok : (got : Result ℕ Error) (told : Result ℕ Failed) (n : ℕ) (P : Error → Type 0) → MatchResult got (λ x. told ≡ Ok x) P → is_ok told ≡ is_ok got → told ≡ Ok n → got ≡ Ok n
+got_ok (Ok x) told n P h v e = cc
+got_ok (Err why) told n P h v e = absurd (false≢true (sym v ∙ ap (λ r. is_ok r) e))
 
-  pub none-wrote : (a : Option (List ℕ)) → Wrote a a (writes m bytes) true
+-- ---- a turn: its read failed, gave nothing, or gave something
+module _ {m : Machine} {had left held : Option (List ℕ)} {input : List ℕ} where
+  pub turn_failed : (got : Result ℕ Error) (r : Result Next Failed) → ReadsAtMost got input → ReadConsumes had left got input → is_ok got ≡ false → IsErr r → TakesTurn m m had left held held input r
   unfolding writes
-  none-wrote a = rw none (wrote_all a a [] (Appends-nil a))
+  turn_failed (Ok n) r moved read e h = absurd (false≢true (sym e))
+  turn_failed (Err why) (Ok f) moved read e h = absurd (false≢true h)
+  turn_failed (Err why) (Err failed) moved read e h =
+      record { got = Err why; moved = moved; read = read; ok = λ ok. absurd (false≢true ok); answers = tt; passes = tt; wrote = wrote_all held held [] false (Appends-nil held) }
+
+  module _ (got : Result ℕ Error) (n : ℕ) (moved : ReadsAtMost got input) (read : ReadConsumes had left got input) (e : got ≡ Ok n) where
+    pub turn_ended : n ≡ 0 → TakesTurn m m had left held held input (Ok (Break tt))
+    unfolding feeds writes
+    turn_ended z =
+        record { got = got; moved = moved; read = read; ok = λ _. ap (λ r. is_ok r) e; answers = rw (e, z) refl; passes = rw (e, z) (inl refl); wrote = rw (e, z) (wrote_all held held [] true (Appends-nil held)) }
+
+    pub turn_taken : {next : Machine} {after : Option (List ℕ)} (r : Result Next Failed) → Answers (take n input) m next r → Passes (take n input) next r → Wrote held after (writes m (take n input)) (is_ok r)
+        → TakesTurn m next had left held after input r
+    turn_taken r answers passes wrote =
+        record { got = got; moved = moved; read = read; ok = λ _. ap (λ r. is_ok r) e; answers = rw e answers; passes = rw e passes; wrote = rw e wrote }
 
 -- ---- turn after turn: the bytes that were read so far are fed, and what they are answered is written
-pub record SoFar (m now : Machine) (had left before after : Option (List ℕ)) (room : ℕ) (t : Turn) (turns : ℕ) : Type 0 where
+pub record SoFar (m now : Machine) (had left before after : Option (List ℕ)) (turns : ℕ) : Type 0 where
   pub bytes : List ℕ
   pub read : Consumes had left bytes
-  pub fed : t.whole ≡ true → now ≡ feeds m bytes
-  pub wrote : Wrote before after (writes m bytes) t.whole
-  pub more : t.on ≡ true → t.whole ≡ true
-  pub count : t.on ≡ true → 2 ^ 64 - 1 ≤ length bytes + turns
-  pub last : t.on ≡ false → t.whole ≡ true → 0 < room → IsAtEnd left ⊎ (stopped now ≡ true)
+  pub fed : Fed m now before after bytes
+  pub count : turns ≤ length bytes
 
 -- nothing is read yet
-pub so_far_begun : (m now : Machine) (had before : Option (List ℕ)) (room : ℕ) (f : Feeding) → now ≡ m → SoFar m now had had before before room (record { feeding = f; on = true; whole = true }) (2 ^ 64 - 1)
-unfolding feeds writes
-so_far_begun m now had before room f e =
-    record {
-      bytes = [];
-      read = Consumes-nil had;
-      fed = λ w. e;
-      wrote = wrote_all before before [] (Appends-nil before);
-      more = λ o. refl;
-      count = λ o. omega arith;
-      last = λ o. absurd (false≢true (sym o));
-    }
+pub so_far_begun : {m : Machine} {had before : Option (List ℕ)} → SoFar m m had had before before 0
+so_far_begun {m} {had} {before} = record { bytes = []; read = Consumes-nil had; fed = fed_none m m before refl; count = omega arith }
 
-module _ (m now next : Machine) (had left left' before after after' : Option (List ℕ)) (t t' : Turn) (turns : ℕ) (got : Result ℕ Error) (buf : List ℕ) where
-  pub so_far_more : (room : ℕ) → SoFar m now had left before after room t turns → t.on ≡ true → 0 < turns
-      → ReadsAtMost got buf → ReadConsumes left left' got buf → Answers (given got buf) now next t' → (t'.whole ≡ true → IsOk got) → Passes (given got buf) next t'
-      → Wrote after after' (writes now (given got buf)) t'.whole → SoFar m next had left' before after' (length buf) t' (turns - 1)
-  so_far_more room s on some bound gave answers ok passes wrote =
-      let bytes = s.bytes in
-      let gift = given got buf in
-      let whole = s.more on in
-      let fed = s.fed whole in
-      let joined : writes m bytes ++ writes now gift ≡ writes m (bytes ++ gift) = ap (λ x. writes m bytes ++ writes x gift) fed ∙ sym (writes-append m bytes gift) in
-      let longer = length-append bytes gift in
-      record {
-        bytes = bytes ++ gift;
-        read = Consumes-trans had left left' bytes gift s.read (gave-consumed left left' got buf gave);
-        fed = λ w. answers.fed w ∙ ap (λ x. feeds x gift) fed ∙ sym (feeds-append m bytes gift);
-        wrote = wrote_then before after after' (writes m bytes) (writes now gift) joined (s.wrote.all whole) wrote;
-        more = answers.more;
-        count = λ o. omega (arith, s.count on, passes.some o, longer, some);
-        last = λ o w free. ended (passes.last o w) (ok w) free;
-      }
-    where
-      ended : (given got buf ≡ []) ⊎ (stopped next ≡ true) → IsOk got → 0 < length buf → IsAtEnd left' ⊎ (stopped next ≡ true)
-      ended (inl e) k free = inl (gave-none left left' got buf bound gave k e free)
-      ended (inr e) k free = inr e
+-- no other turn comes: the input is over
+pub record Ended (m now : Machine) (had left before after : Option (List ℕ)) : Type 0 where
+  pub bytes : List ℕ
+  pub read : Consumes had left bytes
+  pub fed : Fed m now before after bytes
+  pub over : IsOver m bytes left
 
-module _ (m now : Machine) (had left before after : Option (List ℕ)) (room : ℕ) (t : Turn) (turns : ℕ) (s : SoFar m now had left before after room t turns) where
+module _ {m now next : Machine} {had left left' before after after' : Option (List ℕ)} {turns : ℕ} {input : List ℕ} (s : SoFar m now had left before after turns) where
   -- a read or a write failed
-  pub ends_short : t.whole ≡ false → Session m had left before after false
-  ends_short w =
+  pub ends_short : (q : Result Next Failed) (r : Result Unit Failed) → TakesTurn now next left left' after after' input q → IsErr r → Session m had left' before after' (is_ok r)
+  ends_short q (Ok u) t h = absurd (false≢true h)
+  ends_short q (Err why) t h =
+      let gift = given t.got input in
+      let bytes = s.bytes ++ gift in
+      let part = part_more m now before after after' s.bytes s.fed gift t.wrote.part in
       record {
-        bytes = s.bytes;
-        read = s.read;
-        wrote =
-            record {
-              part = part_wider before after (writes m s.bytes) (closing (feeds m s.bytes)) refl s.wrote.part;
-              all = λ e. absurd (false≢true e);
-            };
-        over = inr (refl, s.wrote.part);
+        bytes = bytes;
+        read = Consumes-trans had left left' s.bytes gift s.read (given_consumed left left' t.got input t.read);
+        wrote = record { part = part_wider before after' (writes m bytes) (closing (feeds m bytes)) refl part; all = λ e. absurd (false≢true e) };
+        over = inr (refl, part);
       }
 
-  -- all went well so far: the end of the input is answered
-  pub ends_whole : t.whole ≡ true → 0 < room → (t.on ≡ false) ⊎ ((t.on ≡ true) × (turns ≤ 0)) → (after' : Option (List ℕ)) (w : Bool) {shown : List ℕ} → shown ≡ closing now → Wrote after after' shown w → Session m had left before after' w
-  ends_whole whole some off after' w {shown} e wrote =
-      let fed = s.fed whole in
-      record {
-        bytes = s.bytes;
-        read = s.read;
-        wrote = wrote_then before after after' (writes m s.bytes) (closing now) (ap (λ x. writes m s.bytes ++ closing x) fed) (s.wrote.all whole) (subst (λ t. Wrote after after' t w) e wrote);
-        over = inl (over-when off);
-      }
-    where
-      over-last : IsAtEnd left ⊎ (stopped now ≡ true) → IsOver m s.bytes left
-      over-last (inl e) = inl e
-      over-last (inr e) = inr (inl (ap stopped (sym (s.fed whole)) ∙ e))
+  module _ {f : Next} (t : TakesTurn now next left left' after after' input (Ok f)) where
+    abbrev gift : List ℕ
+    gift = given t.got input
 
-      over-when : (t.on ≡ false) ⊎ ((t.on ≡ true) × (turns ≤ 0)) → IsOver m s.bytes left
-      over-when (inl off) = over-last (s.last off whole some)
-      over-when (inr on) = inr (inr (omega (arith, s.count on.0, on.1)))
+    fed_turn : Fed m next before after' (s.bytes ++ gift)
+    fed_turn = fed_more m now before after after' s.bytes s.fed gift t.answers (t.wrote.all refl)
+
+    read_turn : Consumes had left' (s.bytes ++ gift)
+    read_turn = Consumes-trans had left left' s.bytes gift s.read (given_consumed left left' t.got input t.read)
+
+    -- another turn comes
+    pub so_far_more : is_some (break_value f) ≡ false → SoFar m next had left' before after' (turns + 1)
+    so_far_more e = record { bytes = s.bytes ++ gift; read = read_turn; fed = fed_turn; count = more f t.passes e }
+      where
+        more : (f : Next) → Passes gift next (Ok f) → is_some (break_value f) ≡ false → turns + 1 ≤ length (s.bytes ++ gift)
+        more (Continue c) p e =
+            let l = length-append s.bytes gift in
+            omega (arith, l, s.count, p.0)
+        more (Break b) p e = absurd (false≢true (sym e))
+
+    -- this was the last
+    pub ends_turn : is_some (break_value f) ≡ true → 0 < length input → Ended m next had left' before after'
+    ends_turn e some = record { bytes = s.bytes ++ gift; read = read_turn; fed = fed_turn; over = last f t.passes e }
+      where
+        last : (f : Next) → Passes gift next (Ok f) → is_some (break_value f) ≡ true → IsOver m (s.bytes ++ gift) left'
+        last (Continue c) p e = absurd (false≢true e)
+        last (Break b) (inl none) e = inl (given_none left left' t.got input t.moved t.read (t.ok refl) none some)
+        last (Break b) (inr stop) e = inr (inl (ap stopped (sym fed_turn.fed) ∙ stop))
+
+-- the turns are all used up
+pub ends_count : {m now : Machine} {had left before after : Option (List ℕ)} {turns : ℕ} → SoFar m now had left before after turns → 2 ^ 64 - 1 ≤ turns → Ended m now had left before after
+ends_count s e = record { bytes = s.bytes; read = s.read; fed = s.fed; over = inr (inr (omega (arith, s.count, e))) }
+
+-- and the end of the input is answered
+pub ends_whole : {m now : Machine} {had left before after after' : Option (List ℕ)} {w : Bool} → Ended m now had left before after → Wrote after after' (closing now) w → Session m had left before after' w
+ends_whole {m} {now} {had} {left} {before} {after} {after'} {w} s h =
+    record {
+      bytes = s.bytes;
+      read = s.read;
+      wrote = wrote_then before after after' (writes m s.bytes) (closing now) (ap (λ x. writes m s.bytes ++ closing x) s.fed.fed) s.fed.wrote w h;
+      over = inl s.over;
+    }
 
 -- ---- a session whose input is known
 text-more : (m : Machine) (bytes rest : List ℕ) → writes m bytes ++ text_for (feeds m bytes) rest ≡ text_for m (bytes ++ rest)

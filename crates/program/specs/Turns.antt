@@ -1,28 +1,32 @@
 -- What a turn of a session comes to: of what its read gave, all is fed, and what is answered is written; and what the turns of a session come to.
-use Rattle.std.specs.Prelude.{ℕ, ◌-◌, ◌^◌, ◌≡◌, ◌<◌, ◌≤◌, ◌⊎◌, Bool, true, false, List, [], ◌++◌, length, take, Option, Result, Ok, Err, IfSome}
-use Rattle.std.specs.Io.KnownBytes.{Appends, Consumes, IsAtEnd}
+use Rattle.std.specs.Prelude.{ℕ, ◌-◌, ◌^◌, ◌≡◌, ◌<◌, ◌≤◌, ◌⊎◌, Bool, true, false, List, [], ◌++◌, length, take, Option, Result, Ok, Err, IfSome, OnOk, IsOk, is_ok}
+use Rattle.std.specs.Io.{ReadsAtMost}
+use Rattle.std.specs.Io.KnownBytes.{Appends, Consumes, IsAtEnd, ReadConsumes}
 use Rattle.std.specs.declared.io.Error.{Error}
-use Rattle.rules.specs.Answer.{book_of}
+use Rattle.std.specs.declared.ops.ControlFlow.{ControlFlow}
+use Rattle.std.specs.declared.ops.ControlFlow.TheVariants.{Continue, Break}
 use Rattle.rules.specs.Transcript.{transcript}
-use Rattle.rules.specs.State.{desk_of, empty_state}
 use Rattle.runner.specs.Machine.{Machine, stopped, feeds, writes, closing}
-use Rattle.program.specs.declared.Turn.{Turn}
+use Rattle.program.specs.declared.Failed.{Failed}
 
 -- the bytes that a read gave: as many at the start of the buffer as the reader named; none where the read failed, or at the end of the input
 abbrev pub given : Result ℕ Error → List ℕ → List ℕ
 given (Ok n) input = take n input
 given (Err why) input = []
 
--- unless the read or a write failed every one of these bytes is fed, once and in order; and there is another turn only where neither failed
-pub record Answers (bytes : List ℕ) (before after : Machine) (r : Turn) : Type 0 where
-  pub fed : r.whole ≡ true → after ≡ feeds before bytes
-  pub more : r.on ≡ true → r.whole ≡ true
+-- what a turn that went well leaves: another turn, or none
+abbrev pub Next : Type 0
+Next = ControlFlow Unit Unit
+
+-- unless the read or a write failed every one of these bytes is fed, once and in order
+abbrev pub Answers : List ℕ → Machine → Machine → Result Next Failed → Type 0
+Answers bytes before after r = OnOk r (after ≡ feeds before bytes)
 
 -- there is another turn only where bytes were read, and 100,000 lines are not answered yet; and there is none, though neither failed, only at the end of the input, or after 100,000 lines
-pub record Passes (bytes : List ℕ) (after : Machine) (r : Turn) : Type 0 where
-  pub some : r.on ≡ true → 0 < length bytes
-  pub going : r.on ≡ true → stopped after ≡ false
-  pub last : r.on ≡ false → r.whole ≡ true → (bytes ≡ []) ⊎ (stopped after ≡ true)
+abbrev pub Passes : List ℕ → Machine → Result Next Failed → Type 0
+Passes bytes after (Ok (Continue c)) = (0 < length bytes) × (stopped after ≡ false)
+Passes bytes after (Ok (Break b)) = (bytes ≡ []) ⊎ (stopped after ≡ true)
+Passes bytes after (Err e) = Unit
 
 -- what a writer holds, where it is known, grows by a beginning of a text
 pub record AppendsPart (before after : Option (List ℕ)) (text : List ℕ) : Type 0 where
@@ -36,9 +40,15 @@ pub record Wrote (before after : Option (List ℕ)) (text : List ℕ) (whole : B
   pub part : AppendsPart before after text
   pub all : whole ≡ true → Appends before after text
 
--- the machine that nothing is fed yet, over these tables
-abbrev pub begun_machine : List ℕ → List ℕ → List ℕ → Machine
-begun_machine inbox outbox history = record { book = book_of (desk_of empty_state) inbox outbox history; tally = record { done = 0; other = 0 }; line = 1; held = [] }
+-- a turn: what its read gave, which begins the buffer as the read left it, is fed, and what that is answered is written; a read that failed is not taken for the end of the input
+pub record TakesTurn (m next : Machine) (had left before after : Option (List ℕ)) (input : List ℕ) (r : Result Next Failed) : Type 0 where
+  pub got : Result ℕ Error
+  pub moved : ReadsAtMost got input
+  pub read : ReadConsumes had left got input
+  pub ok : IsOk r → IsOk got
+  pub answers : Answers (given got input) m next r
+  pub passes : Passes (given got input) next r
+  pub wrote : Wrote before after (writes m (given got input)) (is_ok r)
 
 -- all that the machine writes for these bytes, and at the end of the input
 abbrev pub text_for : Machine → List ℕ → List ℕ

@@ -3,282 +3,177 @@
 // when to stop.
 #![tactic(auto)]
 
-ghost use Rattle.std.specs.Prelude.{◌≡◌, ◌<◌, ◌≤◌, take, IsOk, OnOk, length, min, true};
-ghost use Rattle.std.specs.Io.{ReadsAtMost};
-ghost use Rattle.std.specs.Io.KnownBytes.{Appends, ReadConsumes};
-ghost use Rattle.rules.specs.Limits.{most_held};
-ghost use Rattle.runner.specs.Machine.{start as at_start, writes};
-ghost use Rattle.runner.specs.Feeding.{fed_machine, Ready};
-ghost use Rattle.program.specs.Turns.{given, Answers, Passes, begun_machine, AppendsPart, Wrote, Session, WritesTranscript};
+ghost use Rattle.std.specs.Prelude.{◌<◌, is_ok, length};
+ghost use Rattle.runner.specs.Machine.{start as at_start, writes, closing};
+ghost use Rattle.program.specs.Turns.{Answers, Passes, TakesTurn, Wrote, Session, WritesTranscript};
 
-use rules::limits::{HISTORY_SIZE, INBOX_SIZE, MOST_HELD, OUTBOX_SIZE};
-use runner::feed::{Feeding, close, run_some};
-use runner::start::start;
-use std::io;
+use pages::Page;
+use rules::book::Book;
+use rules::limits::{HISTORY_SIZE, INBOX_SIZE, OUTBOX_SIZE};
+use runner::feed::{close, run_some};
+// `Session` in a clause is what specs/Turns.antt says of a whole session.
+use runner::session::{self, empty_desk};
 use std::io::ErrorKind;
+use std::marker::Model;
+use std::ops::ControlFlow;
+use std::{fmt, io};
+
+// How many bytes a read gives at most, and a page holds.
+const PAGE_SIZE: usize = 65536;
 
 // A whole session of what the reader gives, in tables of document 01's sizes, all zero. Answers whether every
-// read and write went well.
+// read and write went well; what did not is a line to standard error. Where that cannot be written there is
+// nobody to tell.
 pub fn run<E: Eprint, R: io::Read, W: io::Write>(rt: &E, reader: &mut R, writer: &mut W) -> bool
     ensures session { Session at_start (R.remaining reader.old) (R.remaining reader.new) (W.contents writer.old) (W.contents writer.new) result }
     ensures transcript { WritesTranscript (R.remaining reader.old) (W.contents writer.old) (W.contents writer.new) result }
 {
+    let mut desk = empty_desk();
     let mut inbox = [0; INBOX_SIZE];
     let mut outbox = [0; OUTBOX_SIZE];
     let mut history = [0; HISTORY_SIZE];
-    let mut hold = [0; MOST_HELD];
-    let mut input = [0; 65536];
-    let mut out = [0; 65536];
-    session(
-        rt,
-        reader,
-        writer,
-        &mut inbox,
-        &mut outbox,
-        &mut history,
-        &mut hold,
-        &mut input,
-        &mut out,
-    )
-}
-
-// What a turn leaves: whether there is another, and whether every read and write so far went well.
-#[derive(Clone, Copy)]
-struct Turn {
-    feeding: Feeding,
-    on: bool,
-    whole: bool,
-}
-
-// What the system answered to a read, and the turn that it was.
-#[derive(Clone, Copy)]
-struct Read {
-    got: io::Result<usize>,
-    turn: Turn,
-}
-
-// Read after read, then the end of the input. A proved loop has to end, and nothing says that an input
-// does: the turns are counted down from a number that no run uses up.
-fn session<E: Eprint, R: io::Read, W: io::Write>(
-    rt: &E,
-    reader: &mut R,
-    writer: &mut W,
-    inbox: &mut [u64],
-    outbox: &mut [u64],
-    history: &mut [u64],
-    hold: &mut [u8],
-    input: &mut [u8],
-    out: &mut [u8],
-) -> bool
-    requires hold_len { length hold.old ≡ most_held }
-    requires out_len { length out.old ≡ 65536 }
-    ensures { 0 < length input.old → Session (begun_machine inbox.old outbox.old history.old) (R.remaining reader.old) (R.remaining reader.new) (W.contents writer.old) (W.contents writer.new) result }
-{
-    let feeding = start();
-    let mut t = Turn {
-        feeding,
-        on: true,
-        whole: true,
-    };
-    let mut turns = u64::MAX;
-    while t.on && turns > 0 {
-        let r = read_once(
-            rt, reader, writer, t.feeding, inbox, outbox, history, hold, input, out,
-        );
-        t = r.turn;
-        turns -= 1;
+    let mut input = [0; PAGE_SIZE];
+    let mut out = [0; PAGE_SIZE];
+    let session = session::Session::new(Book {
+        desk: &mut desk,
+        inbox: &mut inbox,
+        outbox: &mut outbox,
+        history: &mut history,
+    });
+    let page = Page::new(&mut out, 0);
+    let mut answering = Answering { session, page };
+    let all = answering.answer_all(reader, writer, &mut input);
+    if let Err(failed) = &all {
+        let _ = eprintln!(rt; "{failed}");
     }
-    if t.whole {
-        let at = close(t.feeding, hold, out);
-        return written(rt, writer, &out[..at]);
-    }
-    false
+    all.is_ok()
 }
 
-// One read: every byte that it gave is fed, once and in order, unless it or a write fails. What the reader
-// put into the buffer is the buffer as the read left it, of which the reader named how much.
-fn read_once<E: Eprint, R: io::Read, W: io::Write>(
-    rt: &E,
-    reader: &mut R,
-    writer: &mut W,
-    f: Feeding,
-    inbox: &mut [u64],
-    outbox: &mut [u64],
-    history: &mut [u64],
-    hold: &mut [u8],
-    input: &mut [u8],
-    out: &mut [u8],
-) -> Read
-    requires ready { Ready f hold.old }
-    requires at_value { f.at ≡ 0 }
-    requires out_len { length out.old ≡ 65536 }
-    ensures ready_2 { Ready result.turn.feeding hold.new }
-    ensures at_value_2 { result.turn.feeding.at ≡ 0 }
-    ensures moved { ReadsAtMost result.got input.new }
-    ensures answers { Answers (given result.got input.new) (fed_machine f inbox.old outbox.old history.old hold.old) (fed_machine result.turn.feeding inbox.new outbox.new history.new hold.new) result.turn }
-    ensures got_value { result.turn.whole ≡ true → IsOk result.got }
-    ensures passes { Passes (given result.got input.new) (fed_machine result.turn.feeding inbox.new outbox.new history.new hold.new) result.turn }
-    ensures bytes { ReadConsumes (R.remaining reader.old) (R.remaining reader.new) result.got input.new }
-    ensures wrote { Wrote (W.contents writer.old) (W.contents writer.new) (writes (fed_machine f inbox.old outbox.old history.old hold.old) (given result.got input.new)) result.turn.whole }
-{
-    let got = reader.read(input);
-    let turn = answer_given(rt, writer, f, inbox, outbox, history, hold, got, input, out);
-    Read { got, turn }
+// What stopped a session before its input was answered.
+#[derive(Clone, Copy, Debug)]
+enum Failed {
+    Read(io::Error),
+    Write(io::Error),
 }
 
-// What a read gave, answered and written. A read that failed is named, and there is no other turn: what was
-// sent is not known, so no `end` is written.
-fn answer_given<E: Eprint, W: io::Write>(
-    rt: &E,
-    writer: &mut W,
-    f: Feeding,
-    inbox: &mut [u64],
-    outbox: &mut [u64],
-    history: &mut [u64],
-    hold: &mut [u8],
-    got: io::Result<usize>,
-    input: &[u8],
-    out: &mut [u8],
-) -> Turn
-    requires ready { Ready f hold.old }
-    requires at_value { f.at ≡ 0 }
-    requires out_len { length out.old ≡ 65536 }
-    ensures ready_2 { Ready result.feeding hold.new }
-    ensures at_value_2 { result.feeding.at ≡ 0 }
-    ensures answers { Answers (given got input.now) (fed_machine f inbox.old outbox.old history.old hold.old) (fed_machine result.feeding inbox.new outbox.new history.new hold.new) result }
-    ensures got_value { result.whole ≡ true → IsOk got }
-    ensures passes { Passes (given got input.now) (fed_machine result.feeding inbox.new outbox.new history.new hold.new) result }
-    ensures wrote { Wrote (W.contents writer.old) (W.contents writer.new) (writes (fed_machine f inbox.old outbox.old history.old hold.old) (given got input.now)) result.whole }
-{
-    if let Err(why) = got {
-        fail(rt, "read", why);
-        return Turn {
-            feeding: f,
-            on: false,
-            whole: false,
-        };
-    }
-    let n = count(got, input);
-    if n == 0 {
-        return Turn {
-            feeding: f,
-            on: false,
-            whole: true,
-        };
-    }
-    answer_read(
-        rt,
-        writer,
-        f,
-        inbox,
-        outbox,
-        history,
-        hold,
-        &input[..n],
-        out,
-    )
-}
-
-// A read may be answered with more than a page holds: it is fed in parts, and each page written before
-// the next. Every byte of the read is fed, once and in order, unless a write fails. After 100,000 lines, or
-// where a write fails, there is no other turn.
-fn answer_read<E: Eprint, W: io::Write>(
-    rt: &E,
-    writer: &mut W,
-    f: Feeding,
-    inbox: &mut [u64],
-    outbox: &mut [u64],
-    history: &mut [u64],
-    hold: &mut [u8],
-    chunk: &[u8],
-    out: &mut [u8],
-) -> Turn
-    requires ready { Ready f hold.old }
-    requires at_value { f.at ≡ 0 }
-    requires out_len { length out.old ≡ 65536 }
-    ensures ready_2 { Ready result.feeding hold.new }
-    ensures at_value_2 { result.feeding.at ≡ 0 }
-    ensures answers { Answers chunk.now (fed_machine f inbox.old outbox.old history.old hold.old) (fed_machine result.feeding inbox.new outbox.new history.new hold.new) result }
-    ensures last { 0 < length chunk.now → Passes chunk.now (fed_machine result.feeding inbox.new outbox.new history.new hold.new) result }
-    ensures wrote { Wrote (W.contents writer.old) (W.contents writer.new) (writes (fed_machine f inbox.old outbox.old history.old hold.old) chunk.now) result.whole }
-{
-    let mut g = f;
-    let mut from: usize = 0;
-    while from < chunk.len() {
-        let r = run_some(g, inbox, outbox, history, hold, out, &chunk[from..]);
-        let fed = r.feeding;
-        let at = fed.at;
-        let running = fed.running;
-        g = Feeding {
-            running,
-            held: fed.held,
-            at: 0,
-        };
-        from += r.next;
-        if !written(rt, writer, &out[..at]) {
-            return Turn {
-                feeding: g,
-                on: false,
-                whole: false,
-            };
+impl fmt::Display for Failed {
+    fn fmt<W: fmt::Write>(&self, f: &mut fmt::Formatter<W>) -> fmt::Result {
+        match self {
+            Failed::Read(why) => write!(f, "read: {why}"),
+            Failed::Write(why) => write!(f, "write: {why}"),
         }
     }
-    let run = g.running;
-    Turn {
-        feeding: g,
-        on: run.line <= 100000,
-        whole: true,
-    }
 }
 
-// Writes the text out, or names why it cannot be.
-fn written<E: Eprint, W: io::Write>(rt: &E, writer: &mut W, text: &[u8]) -> bool
-    ensures { Wrote (W.contents writer.old) (W.contents writer.new) text.now result }
-{
-    match write_all(writer, text) {
-        Ok(()) => true,
-        Err(why) => {
-            fail(rt, "write", why);
-            false
+// A session, and the page that each write takes its text from. A clause sees the session's machine; the page has
+// room for the longest reply (`runner::feed::LONGEST_REPLY`).
+#[derive(Drop)]
+struct Answering<'a> {
+    session: session::Session<'a>,
+    page: Page<'a>,
+}
+
+impl<'a> Model for Answering<'a> {
+    ghost use Rattle.std.specs.Prelude.{◌≤◌, length};
+    ghost use Rattle.runner.specs.Machine.{Machine};
+
+    ghost Value = { Machine };
+
+    ghost view = { λ a. a.session };
+
+    ghost invariant = { λ a. 45000 ≤ length a.page.bytes };
+}
+
+impl<'a> Answering<'a> {
+    // Read after read, then the end of the input. A proved loop has to end, and nothing says that an input
+    // does: the turns are counted up to a number that no run reaches.
+    #[tactic(auto, using(crate::proofs::Turns::so_far_begun, crate::proofs::Turns::so_far_more))]
+    fn answer_all<R: io::Read, W: io::Write>(
+        &mut self,
+        reader: &mut R,
+        writer: &mut W,
+        input: &mut [u8],
+    ) -> Result<(), Failed>
+        requires { 0 < length input.old }
+        ensures { Session self.old (R.remaining reader.old) (R.remaining reader.new) (W.contents writer.old) (W.contents writer.new) (is_ok result) }
+    {
+        for _ in 0..u64::MAX {
+            if self.read_once(reader, writer, input)?.is_break() {
+                break;
+            }
         }
+        self.finish(writer)
+    }
+
+    // One turn: a read, and every byte that it gave fed, once and in order, unless it or a write fails. After a read
+    // that failed no `end` is written: what was sent is not known.
+    #[tactic(auto, using(crate::proofs::Turns::got_ok, crate::proofs::Turns::turn_failed, crate::proofs::Turns::turn_taken))]
+    fn read_once<R: io::Read, W: io::Write>(
+        &mut self,
+        reader: &mut R,
+        writer: &mut W,
+        input: &mut [u8],
+    ) -> Result<ControlFlow<()>, Failed>
+        ensures { TakesTurn self.old self.new (R.remaining reader.old) (R.remaining reader.new) (W.contents writer.old) (W.contents writer.new) input.new result }
+    {
+        let n = reader.read(input).map_err(Failed::Read)?;
+        if n == 0 {
+            return Ok(ControlFlow::Break(()));
+        }
+        self.answer(writer, &input[..n])
+    }
+
+    // A read may be answered with more than a page holds: it is fed in parts, and each page written before
+    // the next. Every byte of the read is fed, once and in order, unless a write fails. After 100,000 lines there
+    // is no other turn. How much of the rest a page takes is known only after it, so no `for` counts the parts.
+    #[tactic(auto, using(crate::proofs::Turns::put_keeps, crate::proofs::Turns::page_text, crate::proofs::Turns::front_begun, crate::proofs::Turns::front_fed))]
+    fn answer<W: io::Write>(
+        &mut self,
+        writer: &mut W,
+        chunk: &[u8],
+    ) -> Result<ControlFlow<()>, Failed>
+        ensures answers { Answers chunk.now self.old self.new result }
+        ensures last { 0 < length chunk.now → Passes chunk.now self.new result }
+        ensures wrote { Wrote (W.contents writer.old) (W.contents writer.new) (writes self.old chunk.now) (is_ok result) }
+    {
+        let mut rest = chunk;
+        while !rest.is_empty() {
+            self.page.clear();
+            let n = run_some(&mut self.session, &mut self.page, rest);
+            write_all(writer, self.page.written()).map_err(Failed::Write)?;
+            rest = &rest[n..];
+        }
+        if self.session.is_stopped() {
+            return Ok(ControlFlow::Break(()));
+        }
+        Ok(ControlFlow::Continue(()))
+    }
+
+    // The end of the input, answered and written.
+    #[tactic(auto, using(crate::proofs::Turns::put_keeps))]
+    fn finish<W: io::Write>(&mut self, writer: &mut W) -> Result<(), Failed>
+        ensures { Wrote (W.contents writer.old) (W.contents writer.new) (closing self.old) (is_ok result) }
+    {
+        self.page.clear();
+        close(&self.session, &mut self.page);
+        write_all(writer, self.page.written()).map_err(Failed::Write)
     }
 }
 
 // Writes all of the text, or stops at the first write that takes nothing or fails, when a beginning of it
-// may have been written. Of an empty text it makes no call.
+// may have been written. Of an empty text it makes no call. The writer's own `write_all` says nothing of what a failed
+// write leaves, and the clause does (`AppendsPart`). How much a write takes is known only after it.
+#[tactic(auto, using(crate::proofs::Writing::front_more))]
 fn write_all<W: io::Write>(writer: &mut W, text: &[u8]) -> io::Result<()>
-    ensures part { AppendsPart (W.contents writer.old) (W.contents writer.new) text.now }
-    ensures all { OnOk result (Appends (W.contents writer.old) (W.contents writer.new) text.now) }
+    ensures { Wrote (W.contents writer.old) (W.contents writer.new) text.now (is_ok result) }
 {
-    let mut done: usize = 0;
-    while done < text.len() {
-        let n = writer.write(&text[done..])?;
+    let mut rest = text;
+    while !rest.is_empty() {
+        let n = writer.write(rest)?;
         if n == 0 {
             return Err(io::Error::from(ErrorKind::WriteZero));
         }
-        done += n;
+        rest = &rest[n..];
     }
     Ok(())
-}
-
-// A line to standard error: what failed, and why. Where that cannot be written there is nobody to tell.
-fn fail<E: Eprint>(rt: &E, what: &str, why: io::Error) {
-    let _ = eprintln!(rt; "{what}: {why}");
-}
-
-// How many bytes of the buffer a read gave: none where it failed.
-fn count(got: io::Result<usize>, input: &[u8]) -> usize
-    ensures in_bounds { result ≤ length input.now }
-    ensures value { take result input.now ≡ given got input.now }
-{
-    match got {
-        Ok(n) => least(n, input.len()),
-        Err(_) => 0,
-    }
-}
-
-fn least(a: usize, b: usize) -> usize
-    ensures { result ≡ min a b }
-{
-    if a < b { a } else { b }
 }

@@ -1,4 +1,5 @@
 -- The library's trace on lent tables, and its question for a provenance: every number is one of its own, and a refused trace leaves its tables as found.
+use Rattle.std.specs.Prelude.{Ok}
 use Prim.Native.Nat.{ℕ, zero, suc}
 use mathlib.Core.Path.{◌≡◌, refl, sym, subst, ◌∙◌}
 use mathlib.Core.Logic.{◌≢◌}
@@ -79,4 +80,4 @@ never_small_lem b n e =
     never_twenty (bad_history b).1 _ _ (λ f.
     let r = records_fit b (framed_by (in_frame b) (history_in_frame (history_of b)) f) in
     rw (le-ltb history_rows (length (history_of b)) r))
-    (sym (reply-with (reply_number b (Call.Trace n)) (told (done_answer (view b) (Call.Trace n))) refl) ∙ e)
+    (sym (reply-with (reply_number b (Call.Trace n)) (told (Ok (done_answer (view b) (Call.Trace n)))) refl) ∙ e)

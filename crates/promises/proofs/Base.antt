@@ -1,4 +1,5 @@
 -- What a refused call leaves, where every run starts, and the induction over runs that every promise uses.
+use Rattle.std.specs.Prelude.{Ok}
 use Prim.Native.Nat.{ℕ, zero, suc}
 use mathlib.Core.Path.{◌≡◌, refl, ap}
 use mathlib.Core.Logic.{◌≢◌}
@@ -20,7 +21,7 @@ unfolding answer
 refused-leaves b c h =
     record {
       book = not_done (reply_number b c) (done c b) b h;
-      values = ap (λ (r : Reply). r.values) (not_done (reply_number b c) (told (done_answer (view b) c)) (record { number = reply_number b c; values = [] }) h);
+      values = ap (λ (r : Reply). r.values) (not_done (reply_number b c) (told (Ok (done_answer (view b) c))) (record { number = reply_number b c; values = [] }) h);
       pieces = not_done (reply_number b c) (pieces_of (view b) c) [] h;
     }
 

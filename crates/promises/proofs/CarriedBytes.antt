@@ -1,4 +1,5 @@
 -- The machine, byte by byte: the book that it holds is the one that the calls lead to, and what it has written is the replies to the lines that were ended.
+use Rattle.std.specs.Prelude.{Ok, Err}
 use Prim.Native.Nat.{ℕ, zero, suc, ◌+◌}
 use mathlib.Core.Path.{◌≡◌, refl, sym, ap, ◌∙◌}
 use mathlib.Core.Bool.{true, false}
@@ -27,8 +28,8 @@ run-append b (c ∷ cs) ds = run-append (book_after b c) cs ds
 -- a line leaves the book that its call leaves, if it reads as one
 line-run : (b : Book) (l : Line) → run b (call_of l) ≡ (answer_line b l).book
 unfolding run call_of answer_line
-line-run b (Line.Reads c) = refl
-line-run b (Line.Malformed k) = refl
+line-run b (Ok c) = refl
+line-run b (Err e) = refl
 
 pub lines-run : (b : Book) (l : InputLine) (ls : List InputLine) → run b (calls_of (l ∷ ls)) ≡ run (answer_line b (read_input l)).book (calls_of ls)
 unfolding calls_of joined
@@ -37,8 +38,8 @@ lines-run b l ls = rw (run-append b (call_of (read_input l)) (calls_of ls), line
 -- one that is not ended is no call, and among those that are ended it does not count
 none-unread : (l : Line) → call_of (unread l) ≡ []
 unfolding call_of unread
-none-unread (Line.Reads c) = refl
-none-unread (Line.Malformed k) = refl
+none-unread (Ok c) = refl
+none-unread (Err e) = refl
 
 last-calls : (k : ℕ) (before : List ℕ) → calls_of (take k (last_line before)) ≡ []
 unfolding calls_of joined last_line read_input

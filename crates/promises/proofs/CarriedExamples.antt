@@ -5,13 +5,13 @@ use native.Mathlib.Omega.{arith}
 use lib.ListN.{take, replicate}
 use Rattle.promises.specs.Types.{Call}
 use Rattle.rules.specs.Lists.{bytes}
-use Rattle.rules.specs.State.{inbox_of}
+use Rattle.rules.specs.State.{inbox_of, desk_of, empty_state}
 use Rattle.rules.specs.Cases.{deposit}
 use Rattle.rules.proofs.Compute.{compute}
 use Rattle.pages.specs.Writing.{put_byte, put}
 use Rattle.runner.specs.Machine.{start, held_with, fed, written, feeds, writes, unfinished, unfinished_text, at_end, closing, writes_all}
-use Rattle.runner.specs.Kept.{Begins, RunSome}
-use Rattle.promises.specs.Carried.{call_of, calls_of, calls_in, after, Chain}
+use Rattle.runner.specs.Kept.{RunSome}
+use Rattle.promises.specs.Carried.{call_of, calls_of, calls_in, after, Begun, Chain}
 use Rattle.promises.specs.Demand3Examples.{deposited}
 use Rattle.promises.specs.CarriedExamples.{first_read, second_read, last_read, kept_as}
 
@@ -40,7 +40,6 @@ reads_first =
     record {
       machine = refl;
       page = refl;
-      ready = record { counted = record { done = omega arith; other = omega arith; few = omega arith }; held = omega arith; size = refl };
       text = refl;
       within = omega arith;
       moves = record { within = omega arith; some = λ h r. omega arith };
@@ -52,7 +51,6 @@ reads_second =
     record {
       machine = refl;
       page = refl;
-      ready = record { counted = record { done = omega arith; other = omega arith; few = omega arith }; held = omega arith; size = refl };
       text = refl;
       within = omega arith;
       moves = record { within = omega arith; some = λ h r. omega arith };
@@ -62,5 +60,5 @@ pub chain-here : Chain (first_read ++ take 18 second_read) (bytes "1\t0\n") (kep
 unfolding compute start kept_as
 chain-here = Chain.gives (replicate 100 0) (Chain.reads second_read 18 (Chain.reads first_read 4 (Chain.begins begins-here) reads_first) reads_second)
   where
-    begins-here : Begins (kept_as start [])
-    begins-here = record { begun = record { desk = refl; tally = refl; line = refl; held = refl; at = refl }; inbox = refl; outbox = refl; history = refl; size = refl }
+    begins-here : Begun (kept_as start [])
+    begins-here = record { desk = desk_of empty_state; empty = refl; session = refl; upto = refl }

@@ -1,4 +1,5 @@
 -- What follows from the promises, said as people ask for it.
+use Rattle.std.specs.Prelude.{Ok}
 use Prim.Native.Nat.{ℕ, ◌≤◌}
 use mathlib.Core.Path.{◌≡◌, refl, ap, ◌∙◌}
 use mathlib.Core.Logic.{◌≢◌}
@@ -8,7 +9,7 @@ use native.Mathlib.Omega.{arith}
 use lib.Dec.{leb, eqb}
 use lib.ListN.{length, drop, length-append}
 use borrow.Author.Tests.{leb-true}
-use Rattle.promises.specs.Types.{Call, Line}
+use Rattle.promises.specs.Types.{Call}
 use Rattle.rules.specs.Limits.{most_bytes, highest_field}
 use Rattle.rules.specs.Lists.{all, any, bytes}
 use Rattle.rules.specs.State.{Book, Empty}
@@ -47,13 +48,13 @@ abbrev finished : List ℕ → InputLine
 finished s = record { text = s; finished = true }
 
 -- so a line with two tabs together is no call, nor is one with a tab first or last, whatever stands around them
-pub two_tabs : (before after : List ℕ) (c : Call) → read_input (finished (before ++ (tab ∷ tab ∷ after))) ≢ Line.Reads c
+pub two_tabs : (before after : List ℕ) (c : Call) → read_input (finished (before ++ (tab ∷ tab ∷ after))) ≢ Ok c
 two_tabs before after = promises.demand1.which_field.no_call (finished (before ++ (tab ∷ tab ∷ after))) (unfold fields in tab-before (tab ∷ after) (tab-first after) [] before)
 
-pub first-tab : (after : List ℕ) (c : Call) → read_input (finished (tab ∷ after)) ≢ Line.Reads c
+pub first-tab : (after : List ℕ) (c : Call) → read_input (finished (tab ∷ after)) ≢ Ok c
 first-tab after = promises.demand1.which_field.no_call (finished (tab ∷ after)) (tab-first after)
 
-pub last-tab : (before : List ℕ) (c : Call) → read_input (finished (before ++ (tab ∷ []))) ≢ Line.Reads c
+pub last-tab : (before : List ℕ) (c : Call) → read_input (finished (before ++ (tab ∷ []))) ≢ Ok c
 last-tab before = promises.demand1.which_field.no_call (finished (before ++ (tab ∷ []))) (unfold fields fields_from any in tab-before [] refl [] before)
 
 -- ---- calls and lines
@@ -95,7 +96,7 @@ few-numbers (Call.Sign g) = refl
 few-numbers (Call.Trace n) = refl
 
 -- so a call whose numbers fit is written in at most 120 bytes, and is read as that call
-pub written_read : (c : Call) → all (λ n. leb n highest_field) (numbers_of c) ≡ true → read_line (write_line c) ≡ Line.Reads c
+pub written_read : (c : Call) → all (λ n. leb n highest_field) (numbers_of c) ≡ true → read_line (write_line c) ≡ Ok c
 written_read c f = (promises.demand1.reading.exactly (write_line c) c).1 (record { text = refl; short = short; numbers = f })
   where
     short : length (write_line c) ≤ most_bytes
@@ -105,7 +106,7 @@ written_read c f = (promises.demand1.reading.exactly (write_line c) c).1 (record
         (omega (arith, leb-true (length (form_of c).word) 8 (word-short c), leb-true (length (numbers_of c)) 4 (few-numbers c), length-tabbed (numbers_of c) f))
 
 -- the numbers of a call that is read are those of the fields after the word, as many and in the same order
-pub none_missing : (s : List ℕ) (c : Call) → read_line s ≡ Line.Reads c → wanted 1 (length (numbers_of c)) (drop 1 (fields s)) ≡ Numbers.all_read (numbers_of c)
+pub none_missing : (s : List ℕ) (c : Call) → read_line s ≡ Ok c → wanted 1 (length (numbers_of c)) (drop 1 (fields s)) ≡ Numbers.all_read (numbers_of c)
 none_missing s c h =
     let w : IsWritten s c = (promises.demand1.reading.exactly s c).0 h in
     let parted : fields s ≡ (form_of c).word ∷ map decimal (numbers_of c) = rw w.text (unfold write_line in fields-tabbed (form_of c).word (numbers_of c) (word_untabbed c) w.numbers) in

@@ -1,9 +1,10 @@
 -- Demands 1 and 2 are not empty: for each promise something that happens, with its numbers. All by computation.
+use Rattle.std.specs.Prelude.{Ok, Err}
 use mathlib.Core.Path.{◌≡◌, refl}
 use mathlib.Core.Bool.{true, not}
 use mathlib.Core.List.{[], ◌∷◌, ◌++◌, map}
 use lib.ListN.{get_or, take, drop, replicate}
-use Rattle.promises.specs.Types.{Line, Refusal, Answer}
+use Rattle.promises.specs.Types.{Refusal}
 use Rattle.rules.specs.Lists.{any, those, bytes}
 use Rattle.rules.specs.State.{first_holders, empty_book, inbox_of, history_of}
 use Rattle.rules.specs.Replies.{told, plain}
@@ -14,7 +15,7 @@ use Rattle.rules.specs.Lots.{no_lot}
 use Rattle.rules.specs.Answer.{answer, trace_answer, provenance_answer}
 use Rattle.rules.specs.Runs.{run, deposits, sends, settlements, sent_after}
 use Rattle.rules.specs.Sheet.{accepted_deposits, settled_sum, unclaimed_sum, balances_sum, outbox_sum, chain_total}
-use Rattle.rules.specs.Lines.{fields, Numbers, wanted, read_line, form_of, numbers_of, write_line}
+use Rattle.rules.specs.Lines.{fields, Numbers, wanted, read_line, form_of, numbers_of, write_line, failing}
 use Rattle.rules.specs.Transcript.{lines_from, answer_line, transcript}
 use Rattle.rules.specs.Cases.{deposit, transfer, withdraw, trace, with300}
 use Rattle.rules.proofs.Compute.{compute}
@@ -46,7 +47,7 @@ unfolding compute
 refused-here = (refl, refl)
 
 -- the same of lines: one that reads as that call, and one that reads as none
-pub line_refused : map (λ s. (answer_line (run empty_book with300) (read_line (bytes s))).reply) ("withdraw\t2\t3\t301\t77" ∷ "withdraw 2 3 301 77" ∷ []) ≡ plain 14 ∷ told (Answer.Refused (Refusal.Malformed 0)) ∷ []
+pub line_refused : map (λ s. (answer_line (run empty_book with300) (read_line (bytes s))).reply) ("withdraw\t2\t3\t301\t77" ∷ "withdraw 2 3 301 77" ∷ []) ≡ plain 14 ∷ told (Err (Refusal.Malformed 0)) ∷ []
 unfolding compute
 line_refused = refl
 
@@ -68,12 +69,12 @@ pub empty_field_lem : any is_empty (fields (bytes "deposit\t1\t3\t\t2")) ≡ tru
 unfolding compute
 empty_field_lem = refl
 
-pub absent-refused : map (λ s. (answer_line empty_book (read_line (bytes s))).reply) absent ≡ map (λ k. told (Answer.Refused (Refusal.Malformed k))) (3 ∷ 4 ∷ 4 ∷ [])
+pub absent-refused : map (λ s. (answer_line empty_book (read_line (bytes s))).reply) absent ≡ map (λ k. told (Err (Refusal.Malformed k))) (3 ∷ 4 ∷ 4 ∷ [])
 unfolding compute
 absent-refused = refl
 
 -- .. and never read as nought, which gets 3 here; every number of a call that is read stands in a field
-pub nought_read : (read_line (bytes nought) ≡ Line.Reads (deposit 1 3 500 0)) × ((answer_line empty_book (read_line (bytes nought))).reply ≡ plain 3)
+pub nought_read : (read_line (bytes nought) ≡ Ok (deposit 1 3 500 0)) × ((answer_line empty_book (read_line (bytes nought))).reply ≡ plain 3)
 unfolding compute
 nought_read = (refl, refl)
 
@@ -82,11 +83,11 @@ unfolding compute
 fields_read = refl
 
 -- a line is read that is a call written out, and none that is nearly so
-pub written-here : (write_line (transfer 2 4 3 200) ≡ bytes transfer_line) × (read_line (bytes transfer_line) ≡ Line.Reads (transfer 2 4 3 200))
+pub written-here : (write_line (transfer 2 4 3 200) ≡ bytes transfer_line) × (read_line (bytes transfer_line) ≡ Ok (transfer 2 4 3 200))
 unfolding compute form_of numbers_of write_line
 written-here = (refl, refl)
 
-pub nearly-refused : map (λ s. read_line (bytes s)) nearly ≡ map Line.Malformed nearly_fields
+pub nearly-refused : map (λ s. read_line (bytes s)) nearly ≡ map failing nearly_fields
 unfolding compute
 nearly-refused = refl
 

@@ -13,7 +13,8 @@ use Rattle.rules.specs.Tables.{no_deposit}
 use Rattle.rules.specs.State.{State, first_holders}
 use Rattle.rules.specs.Effects.{effect, balance, balances_after, holder, holders_after, matches, records_of}
 use Rattle.rules.specs.Frame.{numbers_rise}
-use Rattle.rules.specs.History.{kind_of, provenance_of, Standing, standing_from, standing_as, standing_after, fits_as, fits, replays}
+use Rattle.rules.specs.Kinds.{numbered_kind}
+use Rattle.rules.specs.History.{provenance_of, Standing, standing_from, standing_as, standing_after, fits_as, fits, replays}
 use Rattle.rules.specs.Facts.{Within, ClaimFit, Fit}
 use Rattle.promises.specs.Started.{standing_of, Replayed}
 use Rattle.lots.specs.Traces.{standing_through}
@@ -60,7 +61,7 @@ claim-number s c k f =
 
 -- the record of an accepted call fits where it stands
 record_fits : (s : State) (c : Call) → Fit s c → Framed s → replays (standing_of s) (records_of c) ≡ true
-unfolding replays records_of kind_of fits_as
+unfolding replays records_of numbered_kind fits_as
 record_fits s (Call.Deposit d) k f = refl
 record_fits s (Call.Claim c) k f =
     rw (true_within 1 8 c.asset k.asset, true_within 1 ceiling c.amount k.amount, true_within 1 16 c.member k.member, true_within 1 highest_number c.number.0 (claim-number s c k f))
@@ -96,7 +97,7 @@ record_fits s (Call.Trace n) k f = refl
 
 -- and does to the standing what the call does
 record_does : (s : State) (c : Call) → standing_through (standing_of s) (records_of c) ≡ standing_of (effect c s)
-unfolding standing_through records_of kind_of standing_as effect balances_after holders_after
+unfolding standing_through records_of numbered_kind standing_as effect balances_after holders_after
 record_does s (Call.Deposit d) = refl
 record_does s (Call.Claim c) = refl
 record_does s (Call.Transfer t) = refl

@@ -1,4 +1,5 @@
 -- Demand 3, a member: two runs that the member sees alike leave the member the same view, and the member's next call gets the same reply from both.
+use Rattle.std.specs.Prelude.{Ok}
 use Prim.Native.Nat.{ℕ}
 use mathlib.Core.Path.{◌≡◌, refl, sym, ap, ◌∙◌}
 use mathlib.Core.Bool.{Bool, true, not, false≢true}
@@ -6,7 +7,7 @@ use mathlib.Core.List.{List, ◌∷◌, ◌++◌, map}
 use native.Mathlib.Omega.{arith}
 use lib.Dec.{eqb}
 use borrow.Author.Tests.{eqb-true}
-use Rattle.promises.specs.Types.{Deposit, Answer, ClaimFields, Call}
+use Rattle.promises.specs.Types.{Deposit, ClaimFields, Call, Done}
 use Rattle.rules.specs.Limits.{within, asset_count, domain_count}
 use Rattle.rules.specs.Lists.{all, any, those}
 use Rattle.rules.specs.State.{State, Book, Empty, view}
@@ -96,7 +97,7 @@ same-refusals m s s' e (Call.Trace n) h = absurd (false≢true h)
 
 -- the reply to the member's own call, from a book in frame: its number by the two tables of refusals, and no values
 reply_by_table : (m : ℕ) (b : Book) → in_frame b ≡ true → (c : Call) → asks m c ≡ true
-    → (answer b c).reply ≡ reply_with (smallest (table (view b) c)) (told Answer.Done)
+    → (answer b c).reply ≡ reply_with (smallest (table (view b) c)) (told (Ok Done.Plain))
 unfolding asks answer reply_number frame_test done_answer smallest
 reply_by_table m b f (Call.Deposit d) h = absurd (false≢true h)
 reply_by_table m b f (Call.Claim c) h = rw f
@@ -110,21 +111,21 @@ reply_by_table m b f (Call.Trace n) h = absurd (false≢true h)
 
 -- so where it does not say that a table is full, it turns on the other refusals alone
 reply_aside : (m : ℕ) (b : Book) → in_frame b ≡ true → (c : Call) → asks m c ≡ true → NoneFull (answer b c).reply
-    → (answer b c).reply ≡ reply_with (smallest (refusals (view b) c)) (told Answer.Done)
+    → (answer b c).reply ≡ reply_with (smallest (refusals (view b) c)) (told (Ok Done.Plain))
 unfolding told
 reply_aside m b f c h n =
     let rs : List (ℕ × Bool) = refusals (view b) c in
     let fs : List (ℕ × Bool) = fulls (view b) c in
-    let table : (answer b c).reply ≡ reply_with (smallest (rs ++ fs)) (told Answer.Done) = reply_by_table m b f c h in
-    let number : (answer b c).reply.number ≡ smallest (rs ++ fs) = ap (λ (r : Reply). r.number) table ∙ reply-with (smallest (rs ++ fs)) (told Answer.Done) refl in
+    let table : (answer b c).reply ≡ reply_with (smallest (rs ++ fs)) (told (Ok Done.Plain)) = reply_by_table m b f c h in
+    let number : (answer b c).reply.number ≡ smallest (rs ++ fs) = ap (λ (r : Reply). r.number) table ∙ reply-with (smallest (rs ++ fs)) (told (Ok Done.Plain)) refl in
     table
-    ∙ ap (λ (k : ℕ). reply_with k (told Answer.Done)) (first-given rs fs (refusals-numbered (view b) c) (λ z e. let w = full-number (view b) c m h z in omega (arith, w.0, w.1, n.outbox, n.history)))
+    ∙ ap (λ (k : ℕ). reply_with k (told (Ok Done.Plain))) (first-given rs fs (refusals-numbered (view b) c) (λ z e. let w = full-number (view b) c m h z in omega (arith, w.0, w.1, n.outbox, n.history)))
 
 -- demand 3, the member's next call: both books are in frame
 pub member-answered : MemberAnswered
 member-answered m b b' e e' cs cs' alike c h n n' =
     reply_aside m (run b cs) (started-run b cs (started_empty b e)).frame c h n
-    ∙ ap (λ (rs : List (ℕ × Bool)). reply_with (smallest rs) (told Answer.Done)) (same-refusals m (view (run b cs)) (view (run b' cs')) (same-from_empty m b b' e e' cs cs' alike) c h)
+    ∙ ap (λ (rs : List (ℕ × Bool)). reply_with (smallest rs) (told (Ok Done.Plain))) (same-refusals m (view (run b cs)) (view (run b' cs')) (same-from_empty m b b' e e' cs cs' alike) c h)
     ∙ sym (reply_aside m (run b' cs') (started-run b' cs' (started_empty b' e')).frame c h n')
 
 -- no other refusal has the number of a full table
@@ -148,7 +149,7 @@ room-told m b f c h r =
     let fs : List (ℕ × Bool) = fulls (view b) c in
     let given : smallest (rs ++ fs) ≡ smallest rs = first-given rs fs (refusals-numbered (view b) c) (λ z. absurd (z (room-smallest (view b) c m h r))) in
     let number : (answer b c).reply.number ≡ smallest rs =
-    ap (λ (r : Reply). r.number) (reply_by_table m b f c h) ∙ reply-with (smallest (rs ++ fs)) (told Answer.Done) refl ∙ given in
+    ap (λ (r : Reply). r.number) (reply_by_table m b f c h) ∙ reply-with (smallest (rs ++ fs)) (told (Ok Done.Plain)) refl ∙ given in
     let says : says_not (answer b c).reply.number ≡ true =
     rw number (one_passes says_not (smallest rs) (0 ∷ map (λ (x : ℕ × Bool). x.0) rs) (smallest_own rs) (none_says m (view b) c h)) in
     record { outbox = λ e. false≢true (rw e at says); history = λ e. false≢true (rw e at says) }

@@ -1,15 +1,17 @@
 -- What a member sees of the history: the statement. The member's balances need no simulation of their own: they are the provenance of the statement.
+use Rattle.std.specs.Prelude.{Ok, Err}
 use Prim.Native.Nat.{ℕ, ◌+◌, ◌-◌}
 use mathlib.Core.Path.{◌≡◌, refl, sym, ap, ◌∙◌}
 use mathlib.Core.Bool.{Bool, true, false, ◌&&◌, ◌||◌, cond, true≢false}
 use mathlib.Core.List.{List, [], ◌∷◌, ◌++◌, append-nil}
 use lib.Dec.{eqb}
 use lib.Seq.{append_snoc}
-use Rattle.promises.specs.Types.{Record, Call}
+use Rattle.promises.specs.Types.{Record, Call, Kind}
 use Rattle.rules.specs.Lists.{those}
 use Rattle.rules.specs.State.{State, Book, view}
 use Rattle.rules.specs.Effects.{effect, balance, records_of}
-use Rattle.rules.specs.History.{Kind, kind_of, counted, counted_as, provenance_of, names, names_as, statement}
+use Rattle.rules.specs.Kinds.{AnyKind, numbered_kind}
+use Rattle.rules.specs.History.{kind_of, counted, counted_as, provenance_of, names, names_as, statement}
 use Rattle.rules.specs.Runs.{run}
 use Rattle.rules.specs.Views.{names_member, seen_by}
 use Rattle.lots.proofs.ListLaws.{those-append}
@@ -27,7 +29,7 @@ statement-append m h rs = those-append (names m) h rs
 
 -- a call that does not name the member writes no record that does
 unnamed_record : (m : ℕ) (c : Call) → names_member m c ≡ false → statement m (records_of c) ≡ []
-unfolding names_member records_of statement those kind_of names_as
+unfolding names_member records_of statement those numbered_kind names_as
 unnamed_record m (Call.Deposit d) h = refl
 unnamed_record m (Call.Claim c) h = rw h
 unnamed_record m (Call.Transfer t) h = rw h
@@ -49,17 +51,17 @@ same-statement m =
 
 -- ---- provenance of the statement
 -- a record that does not name the member counts nothing for the member
-unnamed_counts : (k : Kind) (m a : ℕ) (r : Record) (n : ℕ) → names_as k m r ≡ false → counted_as k m a r n ≡ n
+unnamed_counts : (k : AnyKind) (m a : ℕ) (r : Record) (n : ℕ) → names_as k m r ≡ false → counted_as k m a r n ≡ n
 unfolding names_as counted_as
-unnamed_counts Kind.claim m a r n h = rw h
-unnamed_counts Kind.transfer m a r n h = go (eqb r.first m) (eqb r.second m) h
+unnamed_counts (Ok Kind.Claim) m a r n h = rw h
+unnamed_counts (Ok Kind.Transfer) m a r n h = go (eqb r.first m) (eqb r.second m) h
   where
     go : (t u : Bool) → t || u ≡ false → cond (u && eqb r.asset a) (n + r.amount) (cond (t && eqb r.asset a) (n - r.amount) n) ≡ n
     go true u e = absurd (true≢false e)
     go false u e = rw e
-unnamed_counts Kind.withdrawal m a r n h = rw h
-unnamed_counts Kind.grant m a r n h = refl
-unnamed_counts Kind.other m a r n h = refl
+unnamed_counts (Ok Kind.Withdrawal) m a r n h = rw h
+unnamed_counts (Ok Kind.Grant) m a r n h = refl
+unnamed_counts (Err e) m a r n h = refl
 
 -- one record more counts on what the statement gave, whether it names the member or not
 provenance-one : (m a : ℕ) (h : List Record) (r : Record) → provenance_of m a (statement m (h ++ (r ∷ []))) ≡ counted m a r (provenance_of m a (statement m h))

@@ -1,12 +1,14 @@
 -- The trace of a payment, coin by coin, is the front of the payer's line: what lots say and what coins say is one.
+use Rattle.std.specs.Prelude.{Ok, Err}
 use Prim.Native.Nat.{ℕ, ◌<◌}
 use mathlib.Core.Path.{◌≡◌, refl, ap, ◌∙◌}
 use mathlib.Core.Bool.{true}
 use mathlib.Core.List.{List, [], ◌∷◌}
 use lib.ListN.{take}
-use Rattle.promises.specs.Types.{Nonce, Record, Lot}
+use Rattle.promises.specs.Types.{Nonce, Record, Lot, Kind}
 use Rattle.rules.specs.Lists.{those, joined}
-use Rattle.rules.specs.History.{Kind, kind_of, withdrawals, Standing, standing_from, standing_after, fits_as, fits, replays, passes_from}
+use Rattle.rules.specs.Kinds.{AnyKind}
+use Rattle.rules.specs.History.{kind_of, withdrawals, Standing, standing_from, standing_after, fits_as, fits, replays, passes_from}
 use Rattle.rules.specs.Lots.{line, lots_as, lots_after, replay, pieces}
 use Rattle.rules.proofs.Tests.{both}
 use Rattle.lots.specs.Traces.{coins, nth_withdrawal, before_payment}
@@ -20,13 +22,13 @@ abbrev InCoins : List Lot → CoinLines → Type 0
 InCoins ls lines = (m a : ℕ) → coins (line m a ls) ≡ lines m a
 
 -- a record that fits does the same to both
-same_record : (k : Kind) (s : Standing) (r : Record) (ls : List Lot) (lines : CoinLines) → fits_as k s r ≡ true → InCoins ls lines → InCoins (lots_as k ls r) (coins_as k r lines)
+same_record : (k : AnyKind) (s : Standing) (r : Record) (ls : List Lot) (lines : CoinLines) → fits_as k s r ≡ true → InCoins ls lines → InCoins (lots_as k ls r) (coins_as k r lines)
 unfolding coins_as
-same_record Kind.claim s r ls lines f e m a = claim-coins m a ls r ∙ rw (e m a)
-same_record Kind.transfer s r ls lines f e m a = transfer-coins m a ls r (transfer-fits s r f).apart ∙ rw (e m a, e r.first r.asset)
-same_record Kind.withdrawal s r ls lines f e m a = withdrawal-coins m a ls r ∙ rw (e m a)
-same_record Kind.grant s r ls lines f e m a = unfold lots_as in e m a
-same_record Kind.other s r ls lines f e m a = unfold lots_as in e m a
+same_record (Ok Kind.Claim) s r ls lines f e m a = claim-coins m a ls r ∙ rw (e m a)
+same_record (Ok Kind.Transfer) s r ls lines f e m a = transfer-coins m a ls r (transfer-fits s r f).apart ∙ rw (e m a, e r.first r.asset)
+same_record (Ok Kind.Withdrawal) s r ls lines f e m a = withdrawal-coins m a ls r ∙ rw (e m a)
+same_record (Ok Kind.Grant) s r ls lines f e m a = unfold lots_as in e m a
+same_record (Err k) s r ls lines f e m a = unfold lots_as in e m a
 
 -- and so do all records of a history that the test passes
 same_lines : (h : List Record) (s : Standing) (ls : List Lot) (lines : CoinLines) → replays s h ≡ true → InCoins ls lines → InCoins (replay ls h) (coins_after lines h)

@@ -1,4 +1,5 @@
 -- The queue of payments: what waits is sent in its order, and a send is accepted whenever something waits.
+use Rattle.std.specs.Prelude.{Ok}
 use Prim.Native.Nat.{ℕ, zero, suc, ◌+◌, ◌-◌, ◌≤◌, ◌<◌}
 use mathlib.Core.Path.{◌≡◌, refl, sym, ap, ◌∙◌}
 use mathlib.Core.Bool.{Bool, true, false}
@@ -8,7 +9,7 @@ use lib.Dec.{ltb}
 use lib.ListN.{length, get_or, length-append, get_or-append}
 use lib.Seq.{drop-cons}
 use borrow.Author.Tests.{ltb-true, ltb-false}
-use Rattle.promises.specs.Types.{Payment, Call, Answer}
+use Rattle.promises.specs.Types.{Payment, Call, Done}
 use Rattle.rules.specs.State.{Book, view}
 use Rattle.rules.specs.Replies.{told, if_done}
 use Rattle.rules.specs.Effects.{effect, oldest, payment_of, deposited, withdrawn, sent, settled_one, outside_after}
@@ -28,7 +29,7 @@ pub send-accepted : (b : Book) → Started b → 1 ≤ length (waiting_in b) →
 send-accepted b r h = (accepts b Call.Send r).1 (record { some = h }, record {})
 
 -- and it answers the oldest
-send-answers : (b : Book) → Started b → 1 ≤ length (waiting_in b) → (answer b Call.Send).reply ≡ told (Answer.Sent (oldest (waiting_in b)))
+send-answers : (b : Book) → Started b → 1 ≤ length (waiting_in b) → (answer b Call.Send).reply ≡ told (Ok (Done.Sent (oldest (waiting_in b))))
 unfolding answer done_answer
 send-answers b r h = rw (accepted-number b Call.Send (send-accepted b r h))
 

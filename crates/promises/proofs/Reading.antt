@@ -1,4 +1,5 @@
 -- A line reads as a call exactly if it is that call written out.
+use Rattle.std.specs.Prelude.{Ok, Err}
 use Prim.Native.Nat.{ℕ, zero, suc, ◌+◌, ◌≤◌}
 use mathlib.Core.Path.{◌≡◌, refl, sym, ap, ◌∙◌}
 use mathlib.Core.Bool.{Bool, true, false, cond}
@@ -7,11 +8,12 @@ use native.Mathlib.Omega.{arith}
 use lib.Dec.{leb, eqb}
 use lib.ListN.{length, drop}
 use lib.Seq.{append_snoc}
+use Rattle.std.proofs.lemmas.List.{nil_from_length}
 use borrow.Author.Tests.{eqb-true, leb-true}
 use Rattle.promises.specs.Types.{Call, Line, Field}
 use Rattle.rules.specs.Limits.{most_bytes}
 use Rattle.rules.specs.Lists.{all, same, joined}
-use Rattle.rules.specs.Lines.{tab, Numbers, and_read, number, wanted, Form, at, fields_from, fields, forms, formed, read_as, read_fields, read_whole, unread, read_line, tabbed, form_of, numbers_of, write_line, deposit_form, claim_form, transfer_form, withdraw_form, send_form, settle_form, grant_form, sign_form, trace_form}
+use Rattle.rules.specs.Lines.{tab, Numbers, and_read, number, wanted, Form, at, fields_from, fields, forms, formed, read_as, read_fields, read_whole, unread, read_line, tabbed, form_of, numbers_of, write_line, deposit_form, claim_form, transfer_form, withdraw_form, send_form, settle_form, grant_form, sign_form, trace_form, failing}
 use Rattle.rules.specs.Transcript.{read_input}
 use Rattle.rules.proofs.Tests.{same_eq}
 use Rattle.rules.proofs.ReadBack.{fitting, read_back}
@@ -19,7 +21,7 @@ use Rattle.promises.specs.Promises.{IsWritten, Reading}
 use Rattle.promises.proofs.Spelled.{number_spelled}
 
 -- a Malformed line reads as no call
-pub not-malformed : {k : ℕ} (c : Call) → Line.Malformed k ≡ Line.Reads c → ⊥
+pub not-malformed : {k : ℕ} (c : Call) → failing k ≡ Ok c → ⊥
 not-malformed c h =
     let z : ◌≡◌ {A = ℕ} 0 1 = cc in
     omega arith
@@ -46,7 +48,7 @@ record Fields (n : ℕ) (fs : List (List ℕ)) (ns : List ℕ) : Type 0 where
   fit : fitting ns ≡ true
   count : length ns ≡ n
 
-one_more : (k n : ℕ) (f : List ℕ) (fs : List (List ℕ)) (v : ℕ) (ns : List ℕ) → number k f ≡ Field.Number v → Fields n fs ns → Fields (suc n) (f ∷ fs) (v ∷ ns)
+one_more : (k n : ℕ) (f : List ℕ) (fs : List (List ℕ)) (v : ℕ) (ns : List ℕ) → number k f ≡ Ok v → Fields n fs ns → Fields (suc n) (f ∷ fs) (v ∷ ns)
 unfolding joined tabbed all
 one_more k n f fs v ns h r =
     let (e, m) = number_spelled k f v h in
@@ -68,19 +70,18 @@ numbers_back k (suc n) [] ns h = absurd (none_fails h)
 numbers_back k (suc n) (f ∷ fs) ns h = go (number k f) (wanted (k + 1) n fs) refl h (numbers_back (k + 1) n fs)
   where
     go : (x : Field) (rs : Numbers) → number k f ≡ x → and_read x rs ≡ Numbers.all_read ns → ((ms : List ℕ) → rs ≡ Numbers.all_read ms → Fields n fs ms) → Fields (suc n) (f ∷ fs) ns
-    go (Field.Number v) (Numbers.all_read ms) e r ih =
+    go (Ok v) (Numbers.all_read ms) e r ih =
         let s : v ∷ ms ≡ ns = cc in
         rw (← s) (one_more k n f fs v ms e (ih ms refl))
-    go (Field.Number v) (Numbers.fails_at j) e r ih = absurd (none_fails r)
-    go (Field.FailsAt j) rs e r ih = absurd (none_fails r)
+    go (Ok v) (Numbers.fails_at j) e r ih = absurd (none_fails r)
+    go (Err j) rs e r ih = absurd (none_fails r)
 
 pub wanted-count : (k n : ℕ) (fs : List (List ℕ)) (ns : List ℕ) → wanted k n fs ≡ Numbers.all_read ns → length ns ≡ n
 wanted-count k n fs ns h = (numbers_back k n fs ns h).count
 
 -- ---- so many numbers are the first, the second, and so on
 none : (ns : List ℕ) → length ns ≡ 0 → [] ≡ ns
-none [] h = refl
-none (a ∷ ns) h = absurd (omega arith)
+none ns h = sym (nil_from_length ns h)
 
 one : (ns : List ℕ) → length ns ≡ 1 → at ns 0 ∷ [] ≡ ns
 one [] h = absurd (omega arith)
@@ -115,13 +116,13 @@ all_faithful =
     (Faithful.first (λ ns. refl) one (Faithful.first (λ ns. refl) three (Faithful.first (λ ns. refl) two (Faithful.first (λ ns. refl) one Faithful.last))))))))
 
 -- so a call that some form reads is written with the word and the fields that were read
-form_back : {gs : List Form} → Faithful gs → (word : List ℕ) (fs : List (List ℕ)) (c : Call) → read_as gs word fs ≡ Line.Reads c → (word ++ after_tabs fs ≡ write_line c) × (fitting (numbers_of c) ≡ true)
+form_back : {gs : List Form} → Faithful gs → (word : List ℕ) (fs : List (List ℕ)) (c : Call) → read_as gs word fs ≡ Ok c → (word ++ after_tabs fs ≡ write_line c) × (fitting (numbers_of c) ≡ true)
 unfolding read_as formed write_line
 form_back Faithful.last word fs c h = absurd (not-malformed c h)
 form_back (Faithful.first {f = g} {fs = gs} w m later) word fs c h = go (same g.word word) refl (wanted 1 g.count fs) refl h (form_back later word fs c)
   where
-    go : (t : Bool) → same g.word word ≡ t → (rs : Numbers) → wanted 1 g.count fs ≡ rs → cond t (formed g rs) (read_as gs word fs) ≡ Line.Reads c
-        → (read_as gs word fs ≡ Line.Reads c → (word ++ after_tabs fs ≡ write_line c) × (fitting (numbers_of c) ≡ true)) → (word ++ after_tabs fs ≡ write_line c) × (fitting (numbers_of c) ≡ true)
+    go : (t : Bool) → same g.word word ≡ t → (rs : Numbers) → wanted 1 g.count fs ≡ rs → cond t (formed g rs) (read_as gs word fs) ≡ Ok c
+        → (read_as gs word fs ≡ Ok c → (word ++ after_tabs fs ≡ write_line c) × (fitting (numbers_of c) ≡ true)) → (word ++ after_tabs fs ≡ write_line c) × (fitting (numbers_of c) ≡ true)
     go true e (Numbers.all_read ns) q k ih =
         let p : g.call ns ≡ c = cc in
         let r : Fields g.count fs ns = numbers_back 1 g.count fs ns q in
@@ -132,7 +133,7 @@ form_back (Faithful.first {f = g} {fs = gs} w m later) word fs c h = go (same g.
     go false e rs q k ih = ih k
 
 -- ---- a line that is read
-line_back : (gs : List (List ℕ)) (s : List ℕ) (c : Call) → after_tabs gs ≡ tab ∷ s → read_fields gs ≡ Line.Reads c → (s ≡ write_line c) × (fitting (numbers_of c) ≡ true)
+line_back : (gs : List (List ℕ)) (s : List ℕ) (c : Call) → after_tabs gs ≡ tab ∷ s → read_fields gs ≡ Ok c → (s ≡ write_line c) × (fitting (numbers_of c) ≡ true)
 unfolding read_fields joined
 line_back [] s c e h = absurd (not-malformed c h)
 line_back (word ∷ fs) s c e h =
@@ -140,21 +141,21 @@ line_back (word ∷ fs) s c e h =
     (sym (ap (drop 1) e) ∙ w, n)
 
 -- what is never read is no call
-pub never_call : (l : Line) (c : Call) → unread l ≡ Line.Reads c → ⊥
+pub never_call : (l : Line) (c : Call) → unread l ≡ Ok c → ⊥
 unfolding unread
-never_call (Line.Reads d) c h = not-malformed c h
-never_call (Line.Malformed k) c h = not-malformed c h
+never_call (Ok d) c h = not-malformed c h
+never_call (Err e) c h = not-malformed c h
 
 -- a call that is read is one of a line that is not too long
-pub read_short : (s : List ℕ) (c : Call) → read_line s ≡ Line.Reads c → (length s ≤ most_bytes) × (read_whole s ≡ Line.Reads c)
+pub read_short : (s : List ℕ) (c : Call) → read_line s ≡ Ok c → (length s ≤ most_bytes) × (read_whole s ≡ Ok c)
 unfolding read_line
 read_short s c h = go (leb (length s) most_bytes) refl h
   where
-    go : (t : Bool) → leb (length s) most_bytes ≡ t → cond t (read_whole s) (unread (read_whole s)) ≡ Line.Reads c → (length s ≤ most_bytes) × (read_whole s ≡ Line.Reads c)
+    go : (t : Bool) → leb (length s) most_bytes ≡ t → cond t (read_whole s) (unread (read_whole s)) ≡ Ok c → (length s ≤ most_bytes) × (read_whole s ≡ Ok c)
     go true e k = (leb-true (length s) most_bytes e, k)
     go false e k = absurd (never_call (read_whole s) c k)
 
-reads-written : (s : List ℕ) (c : Call) → read_line s ≡ Line.Reads c → IsWritten s c
+reads-written : (s : List ℕ) (c : Call) → read_line s ≡ Ok c → IsWritten s c
 reads-written s c h =
     let (short, whole) = read_short s c h in
     let (w, n) = line_back (fields s) s c (unfold fields in fields_back [] s) whole in

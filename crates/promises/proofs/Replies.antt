@@ -1,4 +1,5 @@
 -- Reply numbers: every one is its call's own, and a refused call changes nothing.
+use Rattle.std.specs.Prelude.{Ok, Err}
 use Prim.Native.Nat.{ℕ, zero, suc, min, ◌≤◌}
 use mathlib.Core.Path.{◌≡◌, refl}
 use mathlib.Core.Logic.{◌≢◌}
@@ -107,5 +108,5 @@ refused b c h = refused-leaves b c (rw (reply-number b c) at h)
 -- a line that is no call is answered 1, and changes nothing either
 pub line-answered : (b : Book) (l : Line) → LineAnswered b l
 unfolding answer_line told told_refusal
-line-answered b (Line.Reads c) = record { at_most = number-low b c; book = λ h. (refused b c h).book; values = λ h g. (refused b c h).values; pieces = λ h. (refused b c h).pieces }
-line-answered b (Line.Malformed k) = record { at_most = omega arith; book = λ h. refl; values = λ h g. absurd (g refl); pieces = λ h. refl }
+line-answered b (Ok c) = record { at_most = number-low b c; book = λ h. (refused b c h).book; values = λ h g. (refused b c h).values; pieces = λ h. (refused b c h).pieces }
+line-answered b (Err e) = record { at_most = omega arith; book = λ h. refl; values = λ h g. absurd (g refl); pieces = λ h. refl }

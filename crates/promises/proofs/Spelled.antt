@@ -1,4 +1,5 @@
 -- A field that reads as a number is that number's own digits: no number is written in two ways.
+use Rattle.std.specs.Prelude.{Ok}
 use Prim.Native.Nat.{ℕ, suc, ◌+◌, ◌-◌, ◌*◌, ◌/◌, ◌%◌, ◌≤◌}
 use mathlib.Core.Path.{◌≡◌, refl, ap, ◌∙◌}
 use mathlib.Core.Bool.{Bool, true, false, not, ◌&&◌, cond, false≢true}
@@ -8,10 +9,9 @@ use lib.Dec.{leb, ltb, eqb}
 use lib.ListN.{length}
 use lib.Seq.{append_snoc}
 use borrow.Author.Tests.{lt-ltb, le-ltb, eqb-false, not-true}
-use Rattle.promises.specs.Types.{Field}
 use Rattle.rules.specs.Limits.{within, highest_field}
 use Rattle.rules.specs.Lists.{all}
-use Rattle.rules.specs.Lines.{is_digit, value_after, leading_zero, reads_as_number, number, spelled, decimal}
+use Rattle.rules.specs.Lines.{is_digit, value_after, leading_zero, reads_as_number, number, spelled, decimal, failing}
 use Rattle.rules.specs.Facts.{Within}
 use Rattle.rules.proofs.Tests.{both, within_true}
 
@@ -74,11 +74,11 @@ decimal_value (b ∷ bs) h =
     (spelled-all b bs (within_true 1 20 (length (b ∷ bs)) l).high (within_true 48 57 b p) q z, m)
 
 -- a field that is read as a number
-pub number_spelled : (k : ℕ) (f : List ℕ) (n : ℕ) → number k f ≡ Field.Number n → (f ≡ decimal n) × (leb n highest_field ≡ true)
+pub number_spelled : (k : ℕ) (f : List ℕ) (n : ℕ) → number k f ≡ Ok n → (f ≡ decimal n) × (leb n highest_field ≡ true)
 unfolding number
 number_spelled k f n h = go (reads_as_number f) refl h
   where
-    go : (t : Bool) → reads_as_number f ≡ t → cond t (Field.Number (value_after 0 f)) (Field.FailsAt k) ≡ Field.Number n → (f ≡ decimal n) × (leb n highest_field ≡ true)
+    go : (t : Bool) → reads_as_number f ≡ t → cond t (Ok (value_after 0 f)) (failing k) ≡ Ok n → (f ≡ decimal n) × (leb n highest_field ≡ true)
     go true e q =
         let v : value_after 0 f ≡ n = cc in
         let (d, m) = decimal_value f e in

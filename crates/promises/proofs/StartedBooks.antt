@@ -1,4 +1,5 @@
 -- What a started book answers: never 2 BadBook; and what it keeps, by its history.
+use Rattle.std.specs.Prelude.{Ok}
 use Prim.Native.Nat.{ℕ}
 use mathlib.Core.Path.{◌≡◌, refl, sym}
 use mathlib.Core.Logic.{◌≢◌}
@@ -7,7 +8,7 @@ use mathlib.Core.List.{List, [], ◌∷◌, map}
 use lib.Dec.{eqb}
 use lib.ListN.{length}
 use borrow.Author.Tests.{eqb-false}
-use Rattle.promises.specs.Types.{Origin, Call, Answer}
+use Rattle.promises.specs.Types.{Call, Done}
 use Rattle.rules.specs.Lists.{all}
 use Rattle.rules.specs.State.{State, Book, view, history_of}
 use Rattle.rules.specs.Limits.{member_count, asset_count}
@@ -77,10 +78,10 @@ in_frame_lem b r =
       history = r.agreed.replayed.passes;
       no_bad_call = λ c. rw (reply-number b c) (never_two (frame_test b c) (table (view b) c) (frame-passes b c r.frame h) (no_two (view b) c));
       no_bad_trace = λ work out n.
-          rw (reply-with (trace_number b work out n) (told (Answer.Traced (length (pieces (history_of b) n)))) refl)
+          rw (reply-with (trace_number b work out n) (told (Ok (Done.Traced (length (pieces (history_of b) n))))) refl)
           (never_two (bad_history b) (trace_refusals (length work) (length out) (view b) n) tested refl);
       no_bad_question = λ m a.
-          rw (reply-with (provenance_number b m a) (told_origin (Origin.Amount (provenance_of m a (history_of b)))) refl) (never_two (bad_history b) (bad_member m ∷ bad_asset a ∷ []) tested refl);
+          rw (reply-with (provenance_number b m a) (told_origin (Ok (provenance_of m a (history_of b)))) refl) (never_two (bad_history b) (bad_member m ∷ bad_asset a ∷ []) tested refl);
     }
 
 -- the question for a provenance is answered with the balance

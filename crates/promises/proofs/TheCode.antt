@@ -41,7 +41,7 @@ alike input input' =
 steps : {b left : Book} {cs : List Call} → Steps b cs left → left ≡ run b cs
 unfolding run
 steps Steps.none = refl
-steps (Steps.call {b = b} {cs = cs} c r inbox outbox history s e) =
+steps (Steps.call {b = b} {cs = cs} c a s e) =
     ap (λ (o : Outcome). o.book) e ∙ ap (λ (x : Book). (answer x c).book) (steps s) ∙ sym (run-append b cs (c ∷ []))
 steps (Steps.trace {b = b} {cs = cs} n work pieces workLeft piecesLeft a s e) =
     steps s ∙ sym (nothing_changed (run b cs) (Call.Trace n) (unfold changes_nothing in refl)) ∙ sym (run-append b cs (Call.Trace n ∷ []))

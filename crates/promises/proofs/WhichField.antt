@@ -1,4 +1,5 @@
 -- Which field is told of a line that is no call: the first that does not read or, where all read, their count with the word.
+use Rattle.std.specs.Prelude.{Ok}
 use Prim.Native.Nat.{ℕ, zero, suc, ◌+◌, ◌≤◌, ◌<◌}
 use mathlib.Core.Path.{◌≡◌, refl, sym, ap, ◌∙◌}
 use mathlib.Core.Logic.{◌⊎◌, inl, inr}
@@ -10,10 +11,10 @@ use lib.Dec.{leb, ltb, eqb}
 use lib.ListN.{length, drop, drop_of_length-le}
 use lib.Seq.{drop-cons}
 use borrow.Author.Tests.{eqb-true, leb-true, leb-false, ltb-true, ltb-false, lt-ltb, le-ltb}
-use Rattle.promises.specs.Types.{Call, Field, Line}
+use Rattle.promises.specs.Types.{Call, FailsAt, Line}
 use Rattle.rules.specs.Limits.{most_bytes}
 use Rattle.rules.specs.Lists.{all, any, same, bytes}
-use Rattle.rules.specs.Lines.{tab, fields_from, fields, number, reads_as_number, value_after, Numbers, and_read, wanted, Form, forms, formed, read_as, read_fields, read_whole, unread, read_line, numbers_of, deposit_form, claim_form, transfer_form, withdraw_form, send_form, settle_form, grant_form, sign_form, trace_form}
+use Rattle.rules.specs.Lines.{tab, fields_from, fields, number, reads_as_number, value_after, Numbers, and_read, wanted, Form, forms, formed, read_as, read_fields, read_whole, unread, read_line, numbers_of, deposit_form, claim_form, transfer_form, withdraw_form, send_form, settle_form, grant_form, sign_form, trace_form, failing}
 use Rattle.rules.specs.Replies.{told_refusal, told}
 use Rattle.rules.specs.Transcript.{InputLine, read_input, answer_line}
 use Rattle.rules.proofs.Digits.{all_append}
@@ -74,16 +75,16 @@ data Told (fs : List (List ℕ)) : Numbers → Type 0 where
   fails : {k : ℕ} → FirstFails fs k → Told fs (Numbers.fails_at k)
   reads : {ns : List ℕ} → AllRead fs (count_of fs + 1) → Told fs (Numbers.all_read ns)
 
-one_more : (fs : List (List ℕ)) (v : ℕ) {rs : Numbers} → Told fs rs → Told fs (and_read (Field.Number v) rs)
+one_more : (fs : List (List ℕ)) (v : ℕ) {rs : Numbers} → Told fs rs → Told fs (and_read (Ok v) rs)
 unfolding and_read
 one_more fs v (Told.fails f) = Told.fails f
 one_more fs v (Told.reads a) = Told.reads a
 
-number-reads : (k : ℕ) (f : List ℕ) → reads_as_number f ≡ true → number k f ≡ Field.Number (value_after 0 f)
+number-reads : (k : ℕ) (f : List ℕ) → reads_as_number f ≡ true → number k f ≡ Ok (value_after 0 f)
 unfolding number
 number-reads k f h = rw h
 
-number_fails : (k : ℕ) (f : List ℕ) → reads_as_number f ≡ false → number k f ≡ Field.FailsAt k
+number_fails : (k : ℕ) (f : List ℕ) → reads_as_number f ≡ false → number k f ≡ failing k
 unfolding number
 number_fails k f h = rw h
 
@@ -124,8 +125,8 @@ told-from fs (suc n) k e o l h = go (leb (length fs) k) refl (reads_as_number (f
 
 -- ---- a line
 data Verdict (fs : List (List ℕ)) : Line → Type 0 where
-  fails : {k : ℕ} → FirstFails fs k → Verdict fs (Line.Malformed k)
-  reads : {c : Call} → AllRead fs (length (numbers_of c) + 1) → Verdict fs (Line.Reads c)
+  fails : {k : ℕ} → FirstFails fs k → Verdict fs (failing k)
+  reads : {c : Call} → AllRead fs (length (numbers_of c) + 1) → Verdict fs (Ok c)
 
 -- of a form that wants as many numbers as the line's word
 of_form : (fs : List (List ℕ)) (g : Form) → ((ns : List ℕ) → length ns ≡ g.count → numbers_of (g.call ns) ≡ ns) → g.count ≡ count_of fs
@@ -168,30 +169,36 @@ cut-or-whole l = go l.finished (leb (length l.text) most_bytes) refl
     go false t e = rw (or-true (ltb most_bytes (length l.text)))
 
 -- ---- exactly
-same_field : {j k : ℕ} → Line.Malformed j ≡ Line.Malformed k → j ≡ k
-same_field e = cc
+abbrev at_field : ℕ → FailsAt
+at_field k = record { 0 = k }
+
+-- two that are told the same are one field
+same_field : {j k : ℕ} → failing {A = Call} j ≡ failing k → j ≡ k
+same_field {j = j} {k = k} e =
+    let same : at_field j ≡ at_field k = cc in
+    ap (λ (f : FailsAt). f.0) same
 
 module _ (fs : List (List ℕ)) (k : ℕ) where
-  there : (t : Bool) {x : Line} → Verdict fs x → cond t (unread x) x ≡ Line.Malformed k → FirstFails fs k ⊎ (AllRead fs k × (t ≡ true))
+  there : (t : Bool) {x : Line} → Verdict fs x → cond t (unread x) x ≡ failing k → FirstFails fs k ⊎ (AllRead fs k × (t ≡ true))
   unfolding unread
   there true (Verdict.fails f) e = inl (rw (same_field e) at f)
   there false (Verdict.fails f) e = inl (rw (same_field e) at f)
   there true (Verdict.reads a) e = inr (rw (same_field e) at a, refl)
   there false (Verdict.reads {c = c} a) e = absurd (not-malformed c (sym e))
 
-  back : (t : Bool) {x : Line} → Verdict fs x → FirstFails fs k ⊎ (AllRead fs k × (t ≡ true)) → cond t (unread x) x ≡ Line.Malformed k
+  back : (t : Bool) {x : Line} → Verdict fs x → FirstFails fs k ⊎ (AllRead fs k × (t ≡ true)) → cond t (unread x) x ≡ failing k
   unfolding unread
-  back true (Verdict.fails {k = j} f) (inl g) = ap Line.Malformed (first_once fs j k f g)
-  back false (Verdict.fails {k = j} f) (inl g) = ap Line.Malformed (first_once fs j k f g)
+  back true (Verdict.fails {k = j} f) (inl g) = ap failing (first_once fs j k f g)
+  back false (Verdict.fails {k = j} f) (inl g) = ap failing (first_once fs j k f g)
   back t (Verdict.fails {k = j} f) (inr a) = absurd (first-not-all fs j k f a.0)
   back t (Verdict.reads {c = c} a) (inl g) = absurd (first-not-all fs k (length (numbers_of c) + 1) g a)
-  back true (Verdict.reads a) (inr b) = ap Line.Malformed (a.count ∙ sym b.0.count)
+  back true (Verdict.reads a) (inr b) = ap failing (a.count ∙ sym b.0.count)
   back false (Verdict.reads a) (inr b) = absurd (false≢true b.1)
 
-exactly_there : (l : InputLine) (k : ℕ) → read_input l ≡ Line.Malformed k → FirstFails (fields l.text) k ⊎ (AllRead (fields l.text) k × (over_long_or_unfinished l ≡ true))
+exactly_there : (l : InputLine) (k : ℕ) → read_input l ≡ failing k → FirstFails (fields l.text) k ⊎ (AllRead (fields l.text) k × (over_long_or_unfinished l ≡ true))
 exactly_there l k e = there (fields l.text) k (over_long_or_unfinished l) (verdict l.text) (sym (cut-or-whole l) ∙ e)
 
-exactly_back : (l : InputLine) (k : ℕ) → FirstFails (fields l.text) k ⊎ (AllRead (fields l.text) k × (over_long_or_unfinished l ≡ true)) → read_input l ≡ Line.Malformed k
+exactly_back : (l : InputLine) (k : ℕ) → FirstFails (fields l.text) k ⊎ (AllRead (fields l.text) k × (over_long_or_unfinished l ≡ true)) → read_input l ≡ failing k
 exactly_back l k h = cut-or-whole l ∙ back (fields l.text) k (over_long_or_unfinished l) (verdict l.text) h
 
 -- ---- empty fields
@@ -220,7 +227,7 @@ empty_fails fs (suc k) l e h = go (leb (suc k) (count_of fs)) refl (ltb (count_o
         let n : suc k ≤ count_of fs + 1 = ltb-false (count_of fs + 1) (suc k) q in
         FieldFails.one_too_many (omega arith) l
 
-empty_field_lem : (l : InputLine) (k : ℕ) → k < length (fields l.text) → is_empty (field_at (fields l.text) k) ≡ true → ((i : ℕ) → i < k → FieldReads (fields l.text) i) → read_input l ≡ Line.Malformed k
+empty_field_lem : (l : InputLine) (k : ℕ) → k < length (fields l.text) → is_empty (field_at (fields l.text) k) ≡ true → ((i : ℕ) → i < k → FieldReads (fields l.text) i) → read_input l ≡ failing k
 empty_field_lem l k m e h = exactly_back l k (inl (record { before = h; here = empty_fails (fields l.text) k m e h }))
 
 -- a field that reads is not empty
@@ -238,14 +245,14 @@ none_empty (g ∷ gs) h = go (is_empty g) refl (none_empty gs (λ i l. h (suc i)
     go true e r = absurd (h 0 (omega arith) e)
     go false e r = r
 
-read_full : (fs : List (List ℕ)) {x : Line} → Verdict fs x → (c : Call) → x ≡ Line.Reads c → any is_empty fs ≡ false
+read_full : (fs : List (List ℕ)) {x : Line} → Verdict fs x → (c : Call) → x ≡ Ok c → any is_empty fs ≡ false
 read_full fs (Verdict.fails f) c e = absurd (not-malformed c e)
 read_full fs (Verdict.reads a) c e = none_empty fs (λ i l. not_empty fs i (a.each i (omega (arith, a.count))))
 
-no_call : (l : InputLine) → any is_empty (fields l.text) ≡ true → (c : Call) → read_input l ≡ Line.Reads c → ⊥
+no_call : (l : InputLine) → any is_empty (fields l.text) ≡ true → (c : Call) → read_input l ≡ Ok c → ⊥
 no_call l h c e = go (over_long_or_unfinished l) (sym (cut-or-whole l) ∙ e)
   where
-    go : (t : Bool) → cond t (unread (read_whole l.text)) (read_whole l.text) ≡ Line.Reads c → ⊥
+    go : (t : Bool) → cond t (unread (read_whole l.text)) (read_whole l.text) ≡ Ok c → ⊥
     go true q = never_call (read_whole l.text) c q
     go false q = true≢false (sym h ∙ read_full (fields l.text) (verdict l.text) c q)
 

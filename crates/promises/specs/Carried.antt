@@ -1,19 +1,22 @@
 -- Words for what carries the demands to the code: the calls that an input makes, and a chain of reads as the contracts of the book runner's functions have it. What is promised of them stands in Promises.
-use Rattle.std.specs.Prelude.{ℕ, ◌≡◌, List, [], ◌∷◌, ◌++◌, length, take}
-use Rattle.promises.specs.Types.{Nonce, Lot, Call, Line, Answer, Answered}
+use Rattle.std.specs.Prelude.{ℕ, ◌≤◌, ◌≡◌, List, [], ◌∷◌, ◌++◌, length, take, Ok, Err}
+use Rattle.promises.specs.Types.{Nonce, Lot, Desk, Call, Line, Answer}
+use Rattle.rules.specs.Limits.{inbox_rows, outbox_rows, history_rows, most_held}
 use Rattle.rules.specs.Lists.{those, joined}
-use Rattle.rules.specs.State.{Book}
+use Rattle.rules.specs.Tables.{deposit_shape, payment_shape, record_shape}
+use Rattle.rules.specs.State.{Book, desk_of, empty_state, blank}
 use Rattle.rules.specs.Transcript.{InputLine, input_lines, read_input, transcript}
 use Rattle.rules.specs.Answer.{answer, book_of, outcome_of, trace_answer}
 use Rattle.history.specs.Tracing.{trace_outcome_of}
-use Rattle.runner.specs.Machine.{Machine, start, feeds}
-use Rattle.runner.specs.Kept.{Kept, on_page, Begins, RunSome}
+use Rattle.pages.specs.Writing.{page}
+use Rattle.runner.specs.Machine.{Machine, Counted, start, feeds}
+use Rattle.runner.specs.Kept.{Kept, on_page, RunSome}
 
 -- ---- the calls of an input
 -- the call that a line reads as; a Malformed line is none
 unfoldable pub call_of : Line → List Call
-call_of (Line.Reads c) = c ∷ []
-call_of (Line.Malformed k) = []
+call_of (Ok c) = c ∷ []
+call_of (Err e) = []
 
 -- the calls that these lines read as, in order
 unfoldable pub calls_of : List InputLine → List Call
@@ -36,31 +39,39 @@ after input = feeds start input
 abbrev pub Beginning : List ℕ → List ℕ → Type 0
 Beginning input text = (more : List ℕ) → take (length text) (transcript (input ++ more)) ≡ text
 
--- ---- the book runner as code, by its contracts (crate runner, specs/Kept)
+-- ---- the book runner as code, by its contracts (crate runner, specs/Kept). What it keeps is a session, which a contract sees as a machine, and a page
+-- a new session of a book: the contract of `Session::new`
+abbrev pub opened : Book → Machine
+opened b = record { book = b; tally = record { done = 0; other = 0 }; line = 1; held = [] }
+
+-- the beginning: the desk that `empty_desk` hands back, by its contract, and tables of zeros; a new session of this book; and any page on which nothing is written
+pub record Begun (k : Kept) : Type 0 where
+  pub desk : Desk
+  pub empty : desk ≡ desk_of empty_state
+  pub session : k.machine ≡ opened (book_of desk (blank deposit_shape inbox_rows) (blank payment_shape outbox_rows) (blank record_shape history_rows))
+  pub upto : k.page.upto ≡ 0
+
+-- what a session is by its type: no count has passed the lines that were answered, and at most 121 bytes are held
+pub record Ready (m : Machine) : Type 0 where
+  pub counted : Counted m.tally m.line
+  pub held : length m.held ≤ most_held
+
 -- the page is given out, and the same page or another is written from its beginning
 abbrev pub turned : Kept → List ℕ → Kept
-turned k out =
-    record {
-      feeding = record { running = k.feeding.running; held = k.feeding.held; at = 0 };
-      inbox = k.inbox;
-      outbox = k.outbox;
-      history = k.history;
-      hold = k.hold;
-      out = out;
-    }
+turned k out = record { machine = k.machine; page = page out 0 }
 
 -- a chain of reads: `read` are the bytes that were taken so far, `given` are those that were given out. It begins; `run_some` is called, with any bytes and however far it came; the page is given out, at any time
 pub data Chain : List ℕ → List ℕ → Kept → Type 0 where
-  begins : {k : Kept} → Begins k → Chain [] [] k
+  begins : {k : Kept} → Begun k → Chain [] [] k
   reads : {read given : List ℕ} {before left : Kept} (chunk : List ℕ) (next : ℕ) → Chain read given before → RunSome before chunk next left → Chain (read ++ take next chunk) given left
   gives : {read given : List ℕ} {k : Kept} (out : List ℕ) → Chain read given k → Chain read (given ++ on_page k) (turned k out)
 
 -- calls one after the other, from some book on, as the library does them: one of the eight with the equation of its contract (crates inbox, ledger, outbox), a trace with that of its own (crate history), whatever two tables it is lent. None of these contracts asks for anything, so the call may be refused
 pub data Steps : Book → List Call → Book → Type 0 where
   none : {b : Book} → Steps b [] b
-  call : {b met : Book} {cs : List Call} (c : Call) (r : Answered) (inbox outbox history : List ℕ)
-      → Steps b cs met → outcome_of r inbox outbox history ≡ answer met c
-      → Steps b (cs ++ (c ∷ [])) (book_of r.desk inbox outbox history)
+  call : {b met left : Book} {cs : List Call} (c : Call) (a : Answer)
+      → Steps b cs met → outcome_of a left ≡ answer met c
+      → Steps b (cs ++ (c ∷ [])) left
   trace : {b met : Book} {cs : List Call} (n : Nonce) (work pieces workLeft piecesLeft : List Lot) (a : Answer)
       → Steps b cs met → trace_outcome_of a workLeft piecesLeft ≡ trace_answer met work pieces n
       → Steps b (cs ++ (Call.Trace n ∷ [])) met

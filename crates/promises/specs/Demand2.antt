@@ -1,23 +1,24 @@
 -- Words for demand 2: who holds a domain by the history, the payments that are queued and made, the accepted claims, and the pieces that a trace hands out. What is promised of them stands in Promises.
-use Rattle.std.specs.Prelude.{ℕ, ◌+◌, Bool, ◌&&◌, cond, List, [], ◌∷◌, ◌++◌, eqb, take, drop, replicate}
-use Rattle.promises.specs.Types.{Nonce, Deposit, Payment, Record, Lot, ClaimFields, Call}
+use Rattle.std.specs.Prelude.{ℕ, ◌+◌, Bool, ◌&&◌, cond, List, [], ◌∷◌, ◌++◌, eqb, take, drop, replicate, Ok, Err}
+use Rattle.promises.specs.Types.{Nonce, Deposit, Payment, Record, Lot, ClaimFields, Call, Kind}
 use Rattle.rules.specs.Lists.{any}
 pub use Rattle.rules.specs.Tables.{no_payment}
 use Rattle.rules.specs.State.{Book, view}
 use Rattle.rules.specs.Effects.{holder, matches, payment_of}
-use Rattle.rules.specs.History.{Kind, kind_of, by_first, by_second}
+use Rattle.rules.specs.Kinds.{AnyKind}
+use Rattle.rules.specs.History.{kind_of, by_first, by_second}
 use Rattle.rules.specs.Answer.{answer}
 use Rattle.rules.specs.Runs.{run, gather, sends}
 use Rattle.lots.specs.Traces.{nth_withdrawal}
 
 -- ---- what is kept, by the history alone
 -- who holds a domain, going by the grants: the one it was last granted to, and where it never was, the one who held it before
-unfoldable pub held_as : Kind → ℕ → Record → ℕ → ℕ
-held_as Kind.claim d r before = before
-held_as Kind.transfer d r before = before
-held_as Kind.withdrawal d r before = before
-held_as Kind.grant d r before = cond (eqb r.asset d) r.second before
-held_as Kind.other d r before = before
+unfoldable pub held_as : AnyKind → ℕ → Record → ℕ → ℕ
+held_as (Ok Kind.Claim) d r before = before
+held_as (Ok Kind.Transfer) d r before = before
+held_as (Ok Kind.Withdrawal) d r before = before
+held_as (Ok Kind.Grant) d r before = cond (eqb r.asset d) r.second before
+held_as (Err e) d r before = before
 
 unfoldable pub held_after : ℕ → ℕ → List Record → ℕ
 held_after before d [] = before
@@ -116,13 +117,13 @@ abbrev pub CoinLines : Type 0
 CoinLines = ℕ → ℕ → List ℕ
 
 -- what a record makes of the lines: a claim puts as many coins as its amount at the end; a transfer moves the sender's first coins, in their order, to the end of the receiver's line; a withdrawal takes the first coins away
-unfoldable pub coins_as : Kind → Record → CoinLines → CoinLines
-coins_as Kind.claim r lines m a = cond (by_first m a r) (lines m a ++ replicate r.amount r.second) (lines m a)
-coins_as Kind.transfer r lines m a =
+unfoldable pub coins_as : AnyKind → Record → CoinLines → CoinLines
+coins_as (Ok Kind.Claim) r lines m a = cond (by_first m a r) (lines m a ++ replicate r.amount r.second) (lines m a)
+coins_as (Ok Kind.Transfer) r lines m a =
     cond (by_second m a r) (lines m a ++ take r.amount (lines r.first r.asset)) (cond (by_first m a r) (drop r.amount (lines m a)) (lines m a))
-coins_as Kind.withdrawal r lines m a = cond (by_first m a r) (drop r.amount (lines m a)) (lines m a)
-coins_as Kind.grant r lines m a = lines m a
-coins_as Kind.other r lines m a = lines m a
+coins_as (Ok Kind.Withdrawal) r lines m a = cond (by_first m a r) (drop r.amount (lines m a)) (lines m a)
+coins_as (Ok Kind.Grant) r lines m a = lines m a
+coins_as (Err e) r lines m a = lines m a
 
 unfoldable pub coins_after : CoinLines → List Record → CoinLines
 coins_after lines [] = lines

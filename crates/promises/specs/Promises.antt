@@ -1,6 +1,6 @@
 -- What is promised, in the order of the demands, from top to bottom. Each promise is said in words and then exactly; the words that it cites are those of the rules (crate rules; what an accepted call rests on: its specs/Facts), of traces (crate lots), of the book runner (crates steps and runner), and of Demand1, Demand2, Started and Carried beside this page.
-use Rattle.std.specs.Prelude.{ℕ, ◌+◌, ◌≤◌, ◌<◌, ◌≡◌, ◌≢◌, ◌↔◌, ◌⊎◌, true, false, not, ◌&&◌, ◌||◌, List, [], ◌∷◌, ◌++◌, map, leb, eqb, length, get_or, take, drop, replicate}
-use Rattle.promises.specs.Types.{Nonce, Lot, Call, Line, Answer}
+use Rattle.std.specs.Prelude.{ℕ, ◌+◌, ◌≤◌, ◌<◌, ◌≡◌, ◌≢◌, ◌↔◌, ◌⊎◌, true, false, not, ◌&&◌, ◌||◌, List, [], ◌∷◌, ◌++◌, map, leb, eqb, length, get_or, take, drop, replicate, Ok}
+use Rattle.promises.specs.Types.{Nonce, Lot, Call, Line, Done}
 use Rattle.rules.specs.Facts.{Accepted, Within, Fit, Room}
 use Rattle.rules.specs.Limits.{member_count, asset_count, highest_field, most_lines, most_bytes}
 use Rattle.rules.specs.Lists.{all, any, joined, those}
@@ -15,16 +15,16 @@ use Rattle.rules.specs.Answer.{Outcome, answer, trace_answer, provenance_answer}
 use Rattle.rules.specs.Runs.{run, accepted, deposits, sends, settlements, sent_after}
 use Rattle.rules.specs.Sheet.{up_from, accepted_deposits, settled_sum, unclaimed_sum, balances_sum, outbox_sum, BalanceSheet, chain_total}
 use Rattle.rules.specs.Views.{seen_outside, outside_view, seen_by, shown_to, member_view, asks, has_room}
-use Rattle.rules.specs.Lines.{tab, fields, read_line, numbers_of, write_line}
+use Rattle.rules.specs.Lines.{tab, fields, read_line, numbers_of, write_line, failing}
 use Rattle.rules.specs.Transcript.{InputLine, lines_from, input_lines, read_input, answer_line, reply_text, end_text, transcript}
 use Rattle.lots.specs.Traces.{worth, is_positive, coins, before_payment}
 use Rattle.runner.specs.Machine.{start, writes, closing, writes_all}
-use Rattle.runner.specs.Feeding.{Ready}
-use Rattle.runner.specs.Kept.{Kept, book_in, machine_in, on_page, Closed}
+use Rattle.pages.specs.Writing.{Page}
+use Rattle.runner.specs.Kept.{Kept, book_in, text_of, on_page, Closed}
 use Rattle.promises.specs.Demand1.{possible, is_one_of, applying, outcomes, reply_texts, done_count, other_count, answered, line_feeds, as_read, field_at, is_empty, count_of, FieldReads, FieldFails, over_long_or_unfinished}
 use Rattle.promises.specs.Demand2.{holder_by, nonce_of, queued, send_calls, waiting_in, no_payment, claims, is_claimed, claims_lot, made, record_of, payment_by, traced, coins_in}
 use Rattle.promises.specs.Started.{Started, Since}
-use Rattle.promises.specs.Carried.{calls_of, calls_in, ended, after, Beginning, Chain, Steps}
+use Rattle.promises.specs.Carried.{calls_of, calls_in, ended, after, Beginning, Ready, Chain, Steps}
 
 -- ======== Demand 1. "Every call on every book, and every input line up to line 100,000, ends with an answer from the fixed table. The ledger checks for itself. A refused call changes no record, and an absent number is refused, never read as nought."
 
@@ -92,13 +92,13 @@ pub record WhichField : Type 0 where
   pub parted : (s : List ℕ) → joined (λ f. tab ∷ f) (fields s) ≡ tab ∷ s
   pub no_tabs : (s : List ℕ) → all (λ f. all (λ b. not (eqb b tab)) f) (fields s) ≡ true
   -- the field is exactly the first that does not read or, where all read and the line is over-long or unfinished, their count with the word
-  pub exactly : (l : InputLine) (k : ℕ) → read_input l ≡ Line.Malformed k ↔ FirstFails (fields l.text) k ⊎ (AllRead (fields l.text) k × (over_long_or_unfinished l ≡ true))
+  pub exactly : (l : InputLine) (k : ℕ) → read_input l ≡ failing k ↔ FirstFails (fields l.text) k ⊎ (AllRead (fields l.text) k × (over_long_or_unfinished l ≡ true))
   -- it is told after reply 1, on every book
-  pub told : (b : Book) (k : ℕ) → (answer_line b (Line.Malformed k)).reply ≡ record { number = 1; values = k ∷ [] }
+  pub told : (b : Book) (k : ℕ) → (answer_line b (failing k)).reply ≡ record { number = 1; values = k ∷ [] }
   -- an empty field before which every field reads is told by its own number: the absent amount of a notice is named
-  pub empty_field : (l : InputLine) (k : ℕ) → k < length (fields l.text) → is_empty (field_at (fields l.text) k) ≡ true → ((i : ℕ) → i < k → FieldReads (fields l.text) i) → read_input l ≡ Line.Malformed k
+  pub empty_field : (l : InputLine) (k : ℕ) → k < length (fields l.text) → is_empty (field_at (fields l.text) k) ≡ true → ((i : ℕ) → i < k → FieldReads (fields l.text) i) → read_input l ≡ failing k
   -- and a line with an empty field is no call, whatever stands around it: one with two tabs together is such a line, or with a tab first or last
-  pub no_call : (l : InputLine) → any is_empty (fields l.text) ≡ true → (c : Call) → read_input l ≢ Line.Reads c
+  pub no_call : (l : InputLine) → any is_empty (fields l.text) ≡ true → (c : Call) → read_input l ≢ Ok c
 
 -- the line is this call written out, its word and then its numbers, each after a tab; it has at most 120 bytes, and no number is above the highest of a field
 pub record IsWritten (s : List ℕ) (c : Call) : Type 0 where
@@ -109,8 +109,8 @@ pub record IsWritten (s : List ℕ) (c : Call) : Type 0 where
 -- a finished line is read, and an unfinished one is no call; and a line reads as a call exactly if it is that call written out, so any other line is Malformed: no number is read as nought that is not there, and no word or number in two ways
 pub record Reading : Type 0 where
   pub finished : (s : List ℕ) → read_input (record { text = s; finished = true }) ≡ read_line s
-  pub unfinished : (s : List ℕ) (c : Call) → read_input (record { text = s; finished = false }) ≢ Line.Reads c
-  pub exactly : (s : List ℕ) (c : Call) → read_line s ≡ Line.Reads c ↔ IsWritten s c
+  pub unfinished : (s : List ℕ) (c : Call) → read_input (record { text = s; finished = false }) ≢ Ok c
+  pub exactly : (s : List ℕ) (c : Call) → read_line s ≡ Ok c ↔ IsWritten s c
 
 -- the library's trace, lent any two tables: it gets 0, 2, 20 or 21, and refused it tells no values and leaves both tables as found
 pub record LentTrace (b : Book) (work out : List Lot) (n : Nonce) : Type 0 where
@@ -182,7 +182,7 @@ pub record InOrder (b : Book) (cs : List Call) : Type 0 where
 pub record Queue (b : Book) (further : List Call) : Type 0 where
   -- a send is accepted whenever something waits, and answers the oldest
   pub accepted : 1 ≤ length (waiting_in b) → Accepted b Call.Send
-  pub answers : 1 ≤ length (waiting_in b) → (answer b Call.Send).reply ≡ told (Answer.Sent (oldest (waiting_in b)))
+  pub answers : 1 ≤ length (waiting_in b) → (answer b Call.Send).reply ≡ told (Ok (Done.Sent (oldest (waiting_in b))))
   -- what is sent and then waits is what waited and then was queued, in this order
   pub order : sends b further ++ waiting_in (run b further) ≡ waiting_in b ++ queued b further
   -- "A waiting payment with k waiting before it is sent by the (k+1)th send", with its own nonce, asset, amount and payee
@@ -317,20 +317,20 @@ pub record Alike (input input' : List ℕ) : Type 0 where
 -- the code, after any chain of reads that meets its contracts
 pub record Reached (read given : List ℕ) (k : Kept) : Type 0 where
   -- desk, tables, tally, line number and held bytes are those of the machine after the bytes that were read
-  pub machine : machine_in k ≡ after read
+  pub machine : k.machine ≡ after read
   -- so the book in the desk and the tables is the one that the calls in these bytes lead to
   pub book : book_in k ≡ run empty_book (calls_in read)
   -- what was given out, and what stands on the page, is the replies to the lines whose line feed has come
   pub replies : given ++ on_page k ≡ reply_texts 1 (outcomes empty_book (ended (input_lines read)))
   -- so it is a beginning of the transcript, whatever is read next
   pub beginning : Beginning read (given ++ on_page k)
-  -- what `run_some` requires is so, and what `close` requires but for the room on its page
-  pub ready : Ready k.feeding k.hold
-  pub within : k.feeding.at ≤ length k.out
+  -- what the session's type asks is so, and what `run_some` requires, and what `close` requires but for the room on its page
+  pub ready : Ready k.machine
+  pub within : k.page.upto ≤ length k.page.bytes
   -- after `close`, all that was given out, and what stands on the page that it leaves, is the transcript
-  pub closed : (out : List ℕ) (at : ℕ) → Closed k.feeding k.hold k.out out at → given ++ take at out ≡ transcript read
+  pub closed : (left : Page) → Closed k.machine k.page left → given ++ text_of left ≡ transcript read
   -- once 100,000 lines are answered, nothing that may still come changes the transcript: bytes that are never read do not matter
-  pub stops : most_lines < k.feeding.running.line → (more : List ℕ) → transcript (read ++ more) ≡ transcript read
+  pub stops : most_lines < k.machine.line → (more : List ℕ) → transcript (read ++ more) ≡ transcript read
 
 pub record TheCode : Type 0 where
   pub every_byte : (input : List ℕ) → EveryByte input

@@ -3,6 +3,8 @@ pub use Rattle.rules.specs.declared.rows.DepositNumber.{DepositNumber}
 pub use Rattle.rules.specs.declared.rows.Nonce.{Nonce}
 pub use Rattle.rules.specs.declared.rows.Deposit.{Deposit}
 pub use Rattle.rules.specs.declared.rows.Payment.{Payment}
+pub use Rattle.rules.specs.declared.rows.Kind.{Kind}
+pub use Rattle.rules.specs.declared.rows.BadKind.{BadKind}
 pub use Rattle.rules.specs.declared.rows.Record.{Record}
 pub use Rattle.rules.specs.declared.rows.Lot.{Lot}
 pub use Rattle.rules.specs.declared.desk.Desk.{Desk}
@@ -12,10 +14,9 @@ pub use Rattle.rules.specs.declared.calls.WithdrawalFields.{WithdrawalFields}
 pub use Rattle.rules.specs.declared.calls.GrantFields.{GrantFields}
 pub use Rattle.rules.specs.declared.calls.SignFields.{SignFields}
 pub use Rattle.rules.specs.declared.calls.Call.{Call}
-pub use Rattle.rules.specs.declared.calls.Field.{Field}
-pub use Rattle.rules.specs.declared.calls.Line.{Line}
+pub use Rattle.rules.specs.declared.calls.FailsAt.{FailsAt}
 pub use Rattle.rules.specs.declared.answers.Refusal.{Refusal}
-pub use Rattle.rules.specs.declared.answers.Answer.{Answer}
-pub use Rattle.rules.specs.declared.answers.Origin.{Origin}
-pub use Rattle.rules.specs.declared.answers.Answered.{Answered}
+pub use Rattle.rules.specs.declared.answers.Done.{Done}
 pub use Rattle.rules.specs.declared.answers.Tally.{Tally}
+-- an answer, a line and a field are results over these
+pub use Rattle.rules.specs.Types.{Answer, Line, Field}

@@ -1,4 +1,5 @@
 -- Provenance by going back: the history with one record fewer, what keeps each sum and difference within the numbers, and the table of refusals.
+use Rattle.std.specs.Prelude.{Ok, Err}
 use Prim.Native.Nat.{ℕ, zero, suc, ◌+◌, ◌-◌, ◌*◌, ◌≤◌}
 use mathlib.Core.Path.{◌≡◌, refl, sym, ap, ◌∙◌}
 use mathlib.Core.Bool.{Bool, true, false, not, ◌&&◌, ◌||◌, cond}
@@ -9,16 +10,17 @@ use lib.ListN.{length, get_or}
 use borrow.Author.Tests.{leb-true, le-leb, eqb-true}
 use Rattle.rules.specs.declared.rows.Record.{Record}
 use Rattle.rules.specs.declared.answers.Refusal.{Refusal}
-use Rattle.rules.specs.declared.answers.Origin.{Origin}
 use Rattle.rules.specs.Limits.{ceiling, history_rows, is_member, is_asset}
 use Rattle.rules.specs.Lists.{all}
 use Rattle.rules.specs.Tables.{rows_of, record_shape, no_record}
 use Rattle.rules.specs.State.{Book, first_holders, history_of}
 use Rattle.rules.specs.Effects.{balance}
 use Rattle.rules.specs.Frame.{in_frame}
-use Rattle.rules.specs.History.{Kind, kind_of, by_first, by_second, counted_as, counted, provenance, provenance_of, Standing as Replayed, standing_from, standing_after, fits, replays, history_in_frame}
+use Rattle.rules.specs.declared.rows.Kind.{Kind}
+use Rattle.rules.specs.Kinds.{AnyKind}
+use Rattle.rules.specs.History.{kind_of, by_first, by_second, counted_as, counted, provenance, provenance_of, Standing as Replayed, standing_from, standing_after, fits, replays, history_in_frame}
 use Rattle.rules.specs.Replies.{told_refusal, told_origin, smallest}
-use Rattle.rules.specs.Answer.{provenance_number, provenance_answer}
+use Rattle.rules.specs.Answer.{provenance_number, provenance_answer, reply_with}
 use Rattle.rules.proofs.Laying.{length-rows, rows_split}
 use Rattle.rules.proofs.Tests.{both, all-at}
 use Rattle.tables.specs.Rows.{row_at}
@@ -29,7 +31,6 @@ use Rattle.lots.proofs.ProvenanceLaws.{provenance-last}
 use Rattle.lots.proofs.Agreement.{balance-provenance}
 use Rattle.records.specs.Test.{history_frame}
 use Rattle.records.specs.Counts.{CanWork, CanCount}
-use Rattle.records.proofs.KindNumbers.{is_transfer, is_withdrawal_lem}
 use Rattle.records.proofs.Following.{amount-low}
 
 -- ---- one record fewer
@@ -59,26 +60,26 @@ amounts_low s (r ∷ h) f =
     let (u, v) = both (fits s r) (replays (standing_after s r) h) f in
     rw (le-leb r.amount ceiling (amount-low (kind_of r) s r u)) (amounts_low (standing_after s r) h v)
 
-counted-low : (k : Kind) (m a : ℕ) (r : Record) (n : ℕ) → counted_as k m a r n ≤ n + r.amount
+counted-low : (k : AnyKind) (m a : ℕ) (r : Record) (n : ℕ) → counted_as k m a r n ≤ n + r.amount
 unfolding counted_as
-counted-low Kind.claim m a r n = go (by_first m a r)
+counted-low (Ok Kind.Claim) m a r n = go (by_first m a r)
   where
     go : (t : Bool) → cond t (n + r.amount) n ≤ n + r.amount
     go true = omega arith
     go false = omega arith
-counted-low Kind.transfer m a r n = go (by_second m a r) (by_first m a r)
+counted-low (Ok Kind.Transfer) m a r n = go (by_second m a r) (by_first m a r)
   where
     go : (t u : Bool) → cond t (n + r.amount) (cond u (n - r.amount) n) ≤ n + r.amount
     go true u = omega arith
     go false true = omega arith
     go false false = omega arith
-counted-low Kind.withdrawal m a r n = go (by_first m a r)
+counted-low (Ok Kind.Withdrawal) m a r n = go (by_first m a r)
   where
     go : (t : Bool) → cond t (n - r.amount) n ≤ n + r.amount
     go true = omega arith
     go false = omega arith
-counted-low Kind.grant m a r n = omega arith
-counted-low Kind.other m a r n = omega arith
+counted-low (Ok Kind.Grant) m a r n = omega arith
+counted-low (Err e) m a r n = omega arith
 
 provenance-low : (m a n : ℕ) (h : List Record) → all (λ r. leb r.amount ceiling) h ≡ true → provenance m a n h ≤ n * ceiling
 unfolding provenance
@@ -117,8 +118,8 @@ module _ (t : List ℕ) (n : ℕ) (can : CanWork t n) (some : 1 ≤ n) where
       let low : provenance_of m a before ≤ length before * ceiling = provenance-low m a (length before) before (amounts_low (standing_from first_holders) before parts.0) in
       record {
         room = omega (arith, low, few, can.few, amount-low (kind_of last) s last parts.1);
-        sent = λ k e. covers m a (transfer-fits s last (rw (is_transfer last k) at parts.1)).pays.covered e;
-        paid = λ k e. covers m a (withdrawal-fits s last (rw (is_withdrawal_lem last k) at parts.1)).covered e;
+        sent = λ k e. covers m a (transfer-fits s last (rw k at parts.1)).pays.covered e;
+        paid = λ k e. covers m a (withdrawal-fits s last (rw k at parts.1)).covered e;
       }
 
   pub counted-last : (m a : ℕ) → counted m a (row_at record_shape (n - 1) t) (provenance_of m a (rows_of record_shape (n - 1) t)) ≡ provenance_of m a (rows_of record_shape n t)
@@ -138,8 +139,8 @@ history-whole b e =
     let f : Framed b = framed b e in
     rw (le-leb b.desk.counts.records history_rows f.records, le-leb (b.desk.counts.records * record_shape.width) (length b.history) (omega arith))
 
-pub frame-whole : (b : Book) → in_frame b && history_frame b.history b.desk.counts.records ≡ in_frame b && history_in_frame (history_of b)
-frame-whole b = go (in_frame b) refl
+pub frame_whole : (b : Book) → in_frame b && history_frame b.history b.desk.counts.records ≡ in_frame b && history_in_frame (history_of b)
+frame_whole b = go (in_frame b) refl
   where
     go : (t : Bool) → in_frame b ≡ t → t && history_frame b.history b.desk.counts.records ≡ t && history_in_frame (history_of b)
     go true e = history-whole b e
@@ -152,36 +153,26 @@ can_work b h =
     record { few = f.records; framed = v }
 
 -- ---- the table of refusals
-pub not_both : (t u : Bool) → not t || not u ≡ not (t && u)
-not_both true u = refl
-not_both false u = refl
-
-book-first : (t u : Bool) → smallest ((2, true) ∷ (3, t) ∷ (4, u) ∷ []) ≡ 2
-unfolding smallest
-book-first true true = refl
-book-first true false = refl
-book-first false true = refl
-book-first false false = refl
-
-member-first : (u : Bool) → smallest ((2, false) ∷ (3, true) ∷ (4, u) ∷ []) ≡ 3
-unfolding smallest
-member-first true = refl
-member-first false = refl
-
-module _ (b : Book) (m a : ℕ) where
-  pub origin_book : in_frame b && history_in_frame (history_of b) ≡ false → told_origin (Origin.Refused Refusal.BadBook) ≡ provenance_answer b m a
-  unfolding told_origin provenance_answer provenance_number told_refusal
-  origin_book e = rw (not_both (in_frame b) (history_in_frame (history_of b)), e, book-first (not (is_member m)) (not (is_asset a)))
-
-  pub origin_member : in_frame b && history_in_frame (history_of b) ≡ true → is_member m ≡ false → told_origin (Origin.Refused Refusal.BadMember) ≡ provenance_answer b m a
-  unfolding told_origin provenance_answer provenance_number told_refusal
-  origin_member e p = rw (not_both (in_frame b) (history_in_frame (history_of b)), e, p, member-first (not (is_asset a)))
-
-  pub origin_asset : in_frame b && history_in_frame (history_of b) ≡ true → is_member m ≡ true → is_asset a ≡ false → told_origin (Origin.Refused Refusal.BadAsset) ≡ provenance_answer b m a
-  unfolding told_origin provenance_answer provenance_number told_refusal smallest
-  origin_asset e p q = rw (not_both (in_frame b) (history_in_frame (history_of b)), e, p, q)
-
-  pub origin_amount : in_frame b && history_in_frame (history_of b) ≡ true → is_member m ≡ true → is_asset a ≡ true → (n : ℕ) → n ≡ provenance_of m a (history_of b)
-      → told_origin (Origin.Amount n) ≡ provenance_answer b m a
-  unfolding told_origin provenance_answer provenance_number told_refusal smallest
-  origin_amount e p q n f = rw (not_both (in_frame b) (history_in_frame (history_of b)), e, p, q, f)
+-- the code's chain of tests tells what the rules answer
+pub origin_is : (b : Book) (m a : ℕ)
+    → provenance_answer b m a
+    ≡ told_origin (cond (not (in_frame b && history_in_frame (history_of b))) (Err Refusal.BadBook)
+    (cond (not (is_member m)) (Err Refusal.BadMember) (cond (not (is_asset a)) (Err Refusal.BadAsset) (Ok (provenance_of m a (history_of b))))))
+unfolding told_origin provenance_answer provenance_number told_refusal smallest
+origin_is b m a = go (in_frame b) (history_in_frame (history_of b)) (is_member m) (is_asset a)
+  where
+    go : (f h p q : Bool)
+        → reply_with (smallest ((2, not f || not h) ∷ (3, not p) ∷ (4, not q) ∷ [])) (told_origin (Ok (provenance_of m a (history_of b))))
+        ≡ told_origin (cond (not (f && h)) (Err Refusal.BadBook) (cond (not p) (Err Refusal.BadMember) (cond (not q) (Err Refusal.BadAsset) (Ok (provenance_of m a (history_of b))))))
+    go true true true true = refl
+    go true true true false = refl
+    go true true false true = refl
+    go true true false false = refl
+    go true false true true = refl
+    go true false true false = refl
+    go true false false true = refl
+    go true false false false = refl
+    go false h true true = refl
+    go false h true false = refl
+    go false h false true = refl
+    go false h false false = refl

@@ -1,26 +1,29 @@
 -- One record after the other: what a record that fits gives, that no running balance passes the ceiling times the records so far, and the loop over the records.
+use Rattle.std.specs.Prelude.{Ok, Err}
 use Prim.Native.Nat.{ℕ, ◌+◌, ◌-◌, ◌*◌, ◌≤◌, ◌<◌}
-use mathlib.Core.Path.{◌≡◌, refl, sym, ap, ◌∙◌}
+use mathlib.Core.Path.{◌≡◌, refl, ap}
 use mathlib.Core.Bool.{Bool, true, false, ◌&&◌, cond}
 use mathlib.Core.List.{List, [], ◌∷◌}
 use native.Mathlib.Omega.{arith}
 use lib.Dec.{leb}
-use lib.ListN.{length, get_or}
+use lib.ListN.{length, get_or, set}
 use borrow.Author.Tests.{leb-true, le-leb, lt-leb}
 use Rattle.rules.specs.declared.rows.Record.{Record}
 use Rattle.rules.specs.Limits.{ceiling, history_rows, is_member, is_asset, is_amount, is_domain}
 use Rattle.rules.specs.Lists.{all}
 use Rattle.rules.specs.Tables.{rows_of, record_shape}
 use Rattle.rules.specs.Effects.{cell, balance, credit, debit}
-use Rattle.rules.specs.History.{Kind, kind_of, Standing as Replayed, standing_from, standing_as, standing_after, fits_as, fits, replays}
+use Rattle.rules.specs.declared.rows.Kind.{Kind}
+use Rattle.rules.specs.declared.rows.BadKind.{BadKind}
+use Rattle.rules.specs.Kinds.{AnyKind}
+use Rattle.rules.specs.History.{kind_of, Standing as Replayed, standing_from, standing_as, standing_after, fits_as, fits, replays}
 use Rattle.rules.specs.State.{first_holders, empty_state}
 use Rattle.rules.specs.Facts.{Within}
 use Rattle.rules.proofs.Tests.{both, both_of, within_true, true_within, all-at, all_set}
 use Rattle.rules.proofs.Digits.{all_imply}
-use Rattle.tables.specs.Rows.{row_at}
-use Rattle.tables.proofs.Rest.{passes, rest, rest_all, passes_fails, passes_goes, passes_end}
+use Rattle.tables.proofs.Rest.{passes, rest, rest_all}
 use Rattle.lots.proofs.Fits.{Moves, claim-fits, transfer-fits, withdrawal-fits}
-use Rattle.records.specs.Test.{standing, all_up_to, most_before, Cell, CanFollow, history_frame}
+use Rattle.records.specs.Test.{all_up_to, most_before, Cell, CanFollow, history_frame}
 
 -- ---- a balance
 pub cell_in : (m a : ℕ) → Cell m a → is_member m && is_asset a ≡ true
@@ -52,17 +55,17 @@ amount_in : (r : Record) (rest : Bool) → (is_asset r.asset && (is_amount r.amo
 amount_in r rest h = (within_true 1 ceiling r.amount (both (is_amount r.amount) rest (both (is_asset r.asset) (is_amount r.amount && rest) h).1).0).high
 
 -- no record that fits has more than the ceiling
-pub amount-low : (k : Kind) (s : Replayed) (r : Record) → fits_as k s r ≡ true → r.amount ≤ ceiling
+pub amount-low : (k : AnyKind) (s : Replayed) (r : Record) → fits_as k s r ≡ true → r.amount ≤ ceiling
 unfolding fits_as
-amount-low Kind.claim s r h = amount_in r _ h
-amount-low Kind.transfer s r h = amount_in r _ h
-amount-low Kind.withdrawal s r h = amount_in r _ h
-amount-low Kind.grant s r h =
+amount-low (Ok Kind.Claim) s r h = amount_in r _ h
+amount-low (Ok Kind.Transfer) s r h = amount_in r _ h
+amount-low (Ok Kind.Withdrawal) s r h = amount_in r _ h
+amount-low (Ok Kind.Grant) s r h =
     let one : r.amount ≡ 1 = borrow.Author.Tests.eqb-true r.amount 1 (both _ _ (both (is_domain r.asset) _ h).1).0 in
     omega arith
-amount-low Kind.other s r h = absurd (mathlib.Core.Bool.false≢true h)
+amount-low (Err e) s r h = absurd (mathlib.Core.Bool.false≢true h)
 
-pub domain_in : (s : Replayed) (r : Record) → fits_as Kind.grant s r ≡ true → Within 1 8 r.asset
+pub domain_in : (s : Replayed) (r : Record) → fits_as (Ok Kind.Grant) s r ≡ true → Within 1 8 r.asset
 unfolding fits_as
 domain_in s r h = within_true 1 8 r.asset (both (is_domain r.asset) _ h).0
 
@@ -78,16 +81,16 @@ unfolding debit
 debit-low most bs m a x h =
     all_set (λ y. leb y most) bs (cell m a) (balance bs m a - x) h (le-leb (balance bs m a - x) most (omega (arith, balance-low most bs m a h)))
 
-low-after : (k : Kind) (most : ℕ) (s : Replayed) (r : Record) → fits_as k s r ≡ true → all_up_to most s.balances ≡ true → all_up_to (most + ceiling) (standing_as k s r).balances ≡ true
+low-after : (k : AnyKind) (most : ℕ) (s : Replayed) (r : Record) → fits_as k s r ≡ true → all_up_to most s.balances ≡ true → all_up_to (most + ceiling) (standing_as k s r).balances ≡ true
 unfolding standing_as
-low-after Kind.claim most s r f h = credit-low most s.balances r.first r.asset r.amount h (amount-low Kind.claim s r f)
-low-after Kind.transfer most s r f h =
+low-after (Ok Kind.Claim) most s r f h = credit-low most s.balances r.first r.asset r.amount h (amount-low (Ok Kind.Claim) s r f)
+low-after (Ok Kind.Transfer) most s r f h =
     credit-low most (debit s.balances r.first r.asset r.amount) r.second r.asset r.amount
-    (debit-low most s.balances r.first r.asset r.amount h) (amount-low Kind.transfer s r f)
-low-after Kind.withdrawal most s r f h =
+    (debit-low most s.balances r.first r.asset r.amount h) (amount-low (Ok Kind.Transfer) s r f)
+low-after (Ok Kind.Withdrawal) most s r f h =
     more_room most (most + ceiling) (debit s.balances r.first r.asset r.amount) (omega arith) (debit-low most s.balances r.first r.asset r.amount h)
-low-after Kind.grant most s r f h = more_room most (most + ceiling) s.balances (omega arith) h
-low-after Kind.other most s r f h = more_room most (most + ceiling) s.balances (omega arith) h
+low-after (Ok Kind.Grant) most s r f h = more_room most (most + ceiling) s.balances (omega arith) h
+low-after (Err e) most s r f h = more_room most (most + ceiling) s.balances (omega arith) h
 
 -- with i records behind, and one more
 pub low-next : (i : ℕ) (s : Replayed) (r : Record) → fits s r ≡ true → all_up_to (i * ceiling) s.balances ≡ true → all_up_to ((i + 1) * ceiling) (standing_after s r).balances ≡ true
@@ -99,8 +102,8 @@ pub low_first : all_up_to 0 (standing_from first_holders).balances ≡ true
 unfolding standing_from empty_state all
 low_first = refl
 
-pub can_follow : (i : ℕ) (bs hs : List ℕ) (r : Record) → i < history_rows → fits (standing bs hs) r ≡ true → all_up_to (i * ceiling) bs ≡ true → CanFollow bs hs r
-can_follow i bs hs r l f h = record { fits = f; low = more_room (i * ceiling) most_before bs (omega arith) h }
+pub can_follow : (i : ℕ) (s : Replayed) (r : Record) → i < history_rows → fits s r ≡ true → all_up_to (i * ceiling) s.balances ≡ true → CanFollow s r
+can_follow i s r l f h = record { fits = f; low = more_room (i * ceiling) most_before s.balances (omega arith) h }
 
 -- ---- the loop over the records
 replays_pass : (s : Replayed) (rs : List Record) → replays s rs ≡ passes fits standing_after s rs
@@ -125,43 +128,86 @@ module _ (t : List ℕ) (n : ℕ) where
   unfolding history_frame
   history-none h l s e = rw (le-leb n history_rows h, le-leb (n * record_shape.width) (length t) l, rest_all record_shape n t, e) (replays_pass (standing_from first_holders) (rows_of record_shape n t))
 
-  pub history_fails : (s : Replayed) (i : ℕ) → i < n → HistoryFrom s i → fits s (row_at record_shape i t) ≡ false → false ≡ history_frame t n
-  history_fails s i h f e = sym (f ∙ passes_fails record_shape fits standing_after n s i t h e)
+-- ---- what each arm of the code's match asks and leaves, of a record that may be followed: the numbers are those of a cell
+credit_in : (bs : List ℕ) (m a x : ℕ) → Cell m a → credit bs m a x ≡ set bs (cell m a) (get_or bs (cell m a) 0 + x)
+unfolding credit
+credit_in bs m a x c = rw (balance_in bs m a c)
 
-  pub history_goes : (s : Replayed) (i : ℕ) → i < n → HistoryFrom s i → fits s (row_at record_shape i t) ≡ true → HistoryFrom (standing_after s (row_at record_shape i t)) (i + 1)
-  history_goes s i h f e = f ∙ passes_goes record_shape fits standing_after n s i t h e
+debit_in : (bs : List ℕ) (m a x : ℕ) → Cell m a → debit bs m a x ≡ set bs (cell m a) (get_or bs (cell m a) 0 - x)
+unfolding debit
+debit_in bs m a x c = rw (balance_in bs m a c)
 
-  pub history_end : (s : Replayed) (i : ℕ) → n ≤ i → HistoryFrom s i → true ≡ history_frame t n
-  history_end s i h f = sym (f ∙ passes_end record_shape fits standing_after n s i t h)
+module _ (bs hs : List ℕ) (s : Replayed) (r : Record) (view : record { balances = bs; holders = hs } ≡ s) (can : CanFollow s r) where
+  bs_is : bs ≡ s.balances
+  bs_is = ap (λ (x : Replayed). x.balances) view
 
--- ---- what each arm of the code's match asks, of a record that may be followed
-module _ (bs hs : List ℕ) (r : Record) (can : CanFollow bs hs r) where
+  hs_is : hs ≡ s.holders
+  hs_is = ap (λ (x : Replayed). x.holders) view
+
   -- room above any balance
-  room : (xs : List ℕ) (m a : ℕ) → all_up_to most_before xs ≡ true → balance xs m a + r.amount < 18446744073709551616
-  room xs m a h = omega (arith, balance-low most_before xs m a h, amount-low (kind_of r) (standing bs hs) r can.fits)
+  room : (xs : List ℕ) (m a : ℕ) → Cell m a → all_up_to most_before xs ≡ true → get_or xs (cell m a) 0 + r.amount < 18446744073709551616
+  room xs m a c h = omega (arith, balance_in xs m a c, balance-low most_before xs m a h, amount-low (kind_of r) s r can.fits)
 
-  pub can_claim : kind_of r ≡ Kind.claim → Cell r.first r.asset × (balance bs r.first r.asset + r.amount < 18446744073709551616)
-  can_claim k = (moves_cell r (claim-fits (standing bs hs) r (rw k at can.fits)), room bs r.first r.asset can.low)
+  -- a claim
+  pub claim_to : kind_of r ≡ (Ok Kind.Claim) → Cell r.first r.asset
+  claim_to k = moves_cell r (claim-fits s r (rw k at can.fits))
 
-  pub can_send : kind_of r ≡ Kind.transfer → Cell r.first r.asset × (r.amount ≤ balance bs r.first r.asset)
-  can_send k =
-      let p = transfer-fits (standing bs hs) r (rw k at can.fits) in
-      (moves_cell r p.pays.moves, p.pays.covered)
+  pub claim_room : kind_of r ≡ (Ok Kind.Claim) → (i : ℕ) → i ≡ cell r.first r.asset → get_or bs i 0 + r.amount < 18446744073709551616
+  claim_room k i e = rw (e, bs_is) (room s.balances r.first r.asset (claim_to k) can.low)
 
-  pub can_receive : kind_of r ≡ Kind.transfer
-      → Cell r.second r.asset × (balance (debit bs r.first r.asset r.amount) r.second r.asset + r.amount < 18446744073709551616)
-  can_receive k =
-      let p = transfer-fits (standing bs hs) r (rw k at can.fits) in (
-        cell_of r.second r.asset p.second p.pays.moves.asset,
-        room (debit bs r.first r.asset r.amount) r.second r.asset (debit-low most_before bs r.first r.asset r.amount can.low),
-      )
+  pub claim_after : kind_of r ≡ (Ok Kind.Claim) → (i : ℕ) → i ≡ cell r.first r.asset
+      → record { balances = set bs i (get_or bs i 0 + r.amount); holders = hs } ≡ standing_after s r
+  unfolding standing_as
+  claim_after k i e = rw (k, e, bs_is, hs_is, credit_in s.balances r.first r.asset r.amount (claim_to k))
 
-  pub can_pay : kind_of r ≡ Kind.withdrawal → Cell r.first r.asset × (r.amount ≤ balance bs r.first r.asset)
-  can_pay k =
-      let p = withdrawal-fits (standing bs hs) r (rw k at can.fits) in
-      (moves_cell r p.moves, p.covered)
+  -- a transfer
+  pub transfer_from : kind_of r ≡ (Ok Kind.Transfer) → Cell r.first r.asset
+  transfer_from k = moves_cell r (transfer-fits s r (rw k at can.fits)).pays.moves
 
-  pub can_grant : kind_of r ≡ Kind.grant → (1 ≤ r.asset) × (r.asset ≤ 8)
-  can_grant k =
-      let d = domain_in (standing bs hs) r (rw k at can.fits) in
-      (d.low, d.high)
+  pub transfer_to : kind_of r ≡ (Ok Kind.Transfer) → Cell r.second r.asset
+  transfer_to k =
+      let p = transfer-fits s r (rw k at can.fits) in
+      cell_of r.second r.asset p.second p.pays.moves.asset
+
+  pub transfer_covered : kind_of r ≡ (Ok Kind.Transfer) → (i : ℕ) → i ≡ cell r.first r.asset → r.amount ≤ get_or bs i 0
+  transfer_covered k i e = rw (e, bs_is, ← balance_in s.balances r.first r.asset (transfer_from k)) (transfer-fits s r (rw k at can.fits)).pays.covered
+
+  -- the balances with the amount taken off
+  paid : kind_of r ≡ (Ok Kind.Transfer) → (i : ℕ) → i ≡ cell r.first r.asset → set bs i (get_or bs i 0 - r.amount) ≡ debit s.balances r.first r.asset r.amount
+  paid k i e = rw (e, bs_is, debit_in s.balances r.first r.asset r.amount (transfer_from k))
+
+  pub transfer_room : kind_of r ≡ (Ok Kind.Transfer) → (i j : ℕ) → i ≡ cell r.first r.asset → j ≡ cell r.second r.asset
+      → get_or (set bs i (get_or bs i 0 - r.amount)) j 0 + r.amount < 18446744073709551616
+  transfer_room k i j e f =
+      rw (paid k i e, f)
+      (room (debit s.balances r.first r.asset r.amount) r.second r.asset (transfer_to k) (debit-low most_before s.balances r.first r.asset r.amount can.low))
+
+  pub transfer_after : kind_of r ≡ (Ok Kind.Transfer) → (i j : ℕ) → i ≡ cell r.first r.asset → j ≡ cell r.second r.asset
+      → record { balances = set (set bs i (get_or bs i 0 - r.amount)) j (get_or (set bs i (get_or bs i 0 - r.amount)) j 0 + r.amount); holders = hs } ≡ standing_after s r
+  unfolding standing_as
+  transfer_after k i j e f = rw (k, paid k i e, f, hs_is, credit_in (debit s.balances r.first r.asset r.amount) r.second r.asset r.amount (transfer_to k))
+
+  -- a withdrawal
+  pub withdrawal_from : kind_of r ≡ (Ok Kind.Withdrawal) → Cell r.first r.asset
+  withdrawal_from k = moves_cell r (withdrawal-fits s r (rw k at can.fits)).moves
+
+  pub withdrawal_covered : kind_of r ≡ (Ok Kind.Withdrawal) → (i : ℕ) → i ≡ cell r.first r.asset → r.amount ≤ get_or bs i 0
+  withdrawal_covered k i e = rw (e, bs_is, ← balance_in s.balances r.first r.asset (withdrawal_from k)) (withdrawal-fits s r (rw k at can.fits)).covered
+
+  pub withdrawal_after : kind_of r ≡ (Ok Kind.Withdrawal) → (i : ℕ) → i ≡ cell r.first r.asset
+      → record { balances = set bs i (get_or bs i 0 - r.amount); holders = hs } ≡ standing_after s r
+  unfolding standing_as
+  withdrawal_after k i e = rw (k, e, bs_is, hs_is, debit_in s.balances r.first r.asset r.amount (withdrawal_from k))
+
+  -- a grant
+  pub grant_domain : kind_of r ≡ (Ok Kind.Grant) → Within 1 8 r.asset
+  grant_domain k = domain_in s r (rw k at can.fits)
+
+  pub grant_after : kind_of r ≡ (Ok Kind.Grant) → record { balances = bs; holders = set hs (r.asset - 1) r.second } ≡ standing_after s r
+  unfolding standing_as
+  grant_after k = rw (k, bs_is, hs_is)
+
+-- no kind: nothing changes
+pub none_after : (s : Replayed) (r : Record) (why : BadKind) → kind_of r ≡ (Err why) → s ≡ standing_after s r
+unfolding standing_as
+none_after s r why k = rw k

@@ -1,4 +1,4 @@
-pub mod KindNumbers
+pub mod ByKind
 pub mod Following
 pub mod Counting
 pub mod Once

@@ -8,10 +8,6 @@ use Rattle.rules.specs.History.{Standing as Replayed, fits, history_in_frame}
 use Rattle.rules.specs.Facts.{Within}
 use Rattle.tables.specs.Rows.{lie_within}
 
--- what the code carries, as the rules have it
-abbrev pub standing : List ℕ → List ℕ → Replayed
-standing balances holders = record { balances = balances; holders = holders }
-
 -- every one of these is at most so much
 abbrev pub all_up_to : ℕ → List ℕ → Bool
 all_up_to most xs = all (λ x. leb x most) xs
@@ -26,9 +22,9 @@ pub record Cell (m a : ℕ) : Type 0 where
   pub asset : Within 1 8 a
 
 -- what makes it safe to go on after a record: it fits, and no balance is near the largest number
-pub record CanFollow (balances holders : List ℕ) (r : Record) : Type 0 where
-  pub fits : fits (standing balances holders) r ≡ true
-  pub low : all_up_to most_before balances ≡ true
+pub record CanFollow (s : Replayed) (r : Record) : Type 0 where
+  pub fits : fits s r ≡ true
+  pub low : all_up_to most_before s.balances ≡ true
 
 -- the first n rows of a table are a history in frame; no more than a history can have, and no more than the table has
 unfoldable pub history_frame : List ℕ → ℕ → Bool

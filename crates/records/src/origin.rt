@@ -4,41 +4,26 @@ ghost use Rattle.rules.specs.Tables.{rows_of, record_shape};
 ghost use Rattle.rules.specs.History.{provenance_of};
 ghost use Rattle.rules.specs.History.{counted as countedOn};
 ghost use Rattle.rules.specs.Replies.{told_origin};
-ghost use Rattle.rules.specs.Answer.{book_of, provenance_answer};
+ghost use Rattle.rules.specs.Answer.{provenance_answer};
 ghost use Rattle.records.specs.Counts.{CanWork, CanCount};
 
 use crate::{book_in_frame, record_at};
+use desk::answers::refuse;
 use desk::fields::{is_asset, is_member};
-use rules::answers::{Origin, Refusal};
-use rules::desk::Desk;
-use rules::rows::Record;
+use rules::answers::Refusal;
+use rules::book::BookView;
+use rules::rows::{Kind, Record};
 
 // The provenance of a member in an asset: "claims plus transfers in, less transfers out and
 // withdrawals" (replies 0, 2, 3, 4).
-pub fn provenance(
-    d: Desk,
-    inbox: &[u64],
-    outbox: &[u64],
-    history: &[u64],
-    member: u64,
-    asset: u64,
-) -> Origin
-    ensures { told_origin result ≡ provenance_answer (book_of d inbox.now outbox.now history.now) member asset }
+#[tactic(auto, using(crate::proofs::Counting::origin_is))]
+pub fn provenance(book: &BookView, member: u64, asset: u64) -> Result<u64, Refusal>
+    ensures { told_origin result ≡ provenance_answer book.now member asset }
 {
-    let framed = book_in_frame(d, inbox, outbox, history);
-    if !framed {
-        let why = Refusal::BadBook;
-        return Origin::Refused(why);
-    }
-    if !is_member(member) {
-        let why = Refusal::BadMember;
-        return Origin::Refused(why);
-    }
-    if !is_asset(asset) {
-        let why = Refusal::BadAsset;
-        return Origin::Refused(why);
-    }
-    Origin::Amount(worked_out(history, d.counts.records, member, asset))
+    refuse(!book_in_frame(book), Refusal::BadBook)?;
+    refuse(!is_member(member), Refusal::BadMember)?;
+    refuse(!is_asset(asset), Refusal::BadAsset)?;
+    Ok(worked_out(book.history, book.desk.counts.records, member, asset))
 }
 
 // "going back through the history, one record fewer each time"
@@ -54,24 +39,18 @@ fn worked_out(history: &[u64], left: usize, member: u64, asset: u64) -> u64
 }
 
 // The sum so far with one record's amount added or taken off.
+#[tactic(auto, using(crate::proofs::ByKind::counted_by_kind))]
 fn counted(r: Record, member: u64, asset: u64, n: u64) -> u64
     requires { CanCount r member asset n }
     ensures { result ≡ countedOn member asset r n }
 {
     let out = (r.first == member) & (r.asset == asset);
     let within = (r.second == member) & (r.asset == asset);
-    let kind = r.kind;
-    match kind {
-        1 => if out { n + r.amount } else { n },
-        2 => if within {
-            n + r.amount
-        } else if out {
-            n - r.amount
-        } else {
-            n
-        },
-        3 => if out { n - r.amount } else { n },
-        4 => n,
+    match Kind::try_from(r.kind) {
+        Ok(Kind::Claim) if out => n + r.amount,
+        Ok(Kind::Transfer) if within => n + r.amount,
+        Ok(Kind::Transfer) if out => n - r.amount,
+        Ok(Kind::Withdrawal) if out => n - r.amount,
         _ => n,
     }
 }

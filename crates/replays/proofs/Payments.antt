@@ -1,29 +1,28 @@
 -- Where a payment stands among the records, found by counting withdrawals; and the replay up to it.
 use Prim.Native.Nat.{ℕ, zero, suc, ◌+◌, ◌-◌, ◌*◌, ◌≤◌, ◌<◌}
 use mathlib.Core.Path.{◌≡◌, refl, sym, ap, ◌∙◌}
-use mathlib.Core.Bool.{Bool, true, false, not, ◌&&◌, cond}
+use mathlib.Core.Bool.{Bool, true, false, cond}
 use mathlib.Core.List.{List, [], ◌∷◌, ◌++◌}
 use native.Mathlib.Nat.{zero-mul}
 use native.Mathlib.Omega.{arith}
 use lib.Dec.{leb, eqb}
 use lib.ListN.{length, get_or, take, drop, length-append}
 use lib.Seq.{drop-drop, take-append_seam, get_or-append_seam}
-use borrow.Author.Tests.{eqb-true, ne_eqb, le-leb, lt-leb, leb-true, leb-false, not-false}
+use borrow.Author.Tests.{ne_eqb, le-leb, lt-leb, leb-true, leb-false}
+use Rattle.std.specs.List.{filter, range_with_len}
 use Rattle.rules.specs.declared.rows.Record.{Record}
 use Rattle.rules.specs.declared.rows.Lot.{Lot}
 use Rattle.rules.specs.Lists.{those}
 use Rattle.rules.specs.Tables.{Shape, rows_of, record_shape, no_record}
 use Rattle.rules.specs.History.{is_withdrawal, withdrawals}
 use Rattle.rules.specs.Lots.{taken_by, lots_after, replay, trace_from}
-use Rattle.rules.proofs.Laying.{length-rows, take-rows, more}
-use Rattle.rules.proofs.Tests.{both}
+use Rattle.rules.proofs.Laying.{length-rows, take-rows, rows_split, more}
 use Rattle.tables.specs.Rows.{row_at}
 use Rattle.tables.proofs.Rest.{rest, rest_all, rest_step, rest_end}
 use Rattle.lots.specs.Traces.{before_payment, after_payment, nth_withdrawal, PaymentAt}
 use Rattle.lots.proofs.TraceLaws.{payment-at, pieces-at}
 use Rattle.lots.proofs.LotCounts.{replay-count}
 use Rattle.replays.specs.Replaying.{CanReplay, Replays, CanReplayAll, ReplaysAll}
-use Rattle.records.proofs.Counting.{rows_last}
 
 -- a row of the rows is the row of the table
 get_d_rows : {A : Type 0} (shape : Shape A) (n i : ℕ) (t : List ℕ) (d : A) → i < n → get_or (rows_of shape n t) i d ≡ row_at shape i t
@@ -32,38 +31,33 @@ get_d_rows shape zero i t d h = absurd (omega arith)
 get_d_rows shape (suc n) zero t d h = ap (λ (k : ℕ). shape.row (take shape.width (drop k t))) (sym (zero-mul shape.width))
 get_d_rows shape (suc n) (suc i) t d h = get_d_rows shape n i (drop shape.width t) d (omega arith) ∙ ap (λ (u : List ℕ). shape.row (take shape.width u)) (drop-drop (i * shape.width) shape.width t ∙ ap (λ (k : ℕ). drop k t) (sym (more i shape.width)))
 
--- ---- the loop that counts
-module _ (t : List ℕ) (records n : ℕ) where
-  -- after i records, with so many withdrawals still to pass
-  abbrev pub PaymentFrom : ℕ → ℕ → Type 0
-  PaymentFrom due i = length (before_payment n (rows_of record_shape records t)) ≡ i + length (before_payment due (rest record_shape records i t))
+-- ---- the withdrawals' rows, of which it is number n
+module _ (t : List ℕ) (records : ℕ) where
+  -- the rows of a table that hold withdrawals: so many from row i on are looked at
+  abbrev pub paying : ℕ → ℕ → List ℕ
+  paying i k = filter (λ j. is_withdrawal (row_at record_shape j t)) (range_with_len i k)
 
-  pub payment-none : PaymentFrom n 0
-  payment-none = rw (rest_all record_shape records t) (omega arith)
-
-  pub payment-here : (due i : ℕ) → i < records → PaymentFrom due i → is_withdrawal (row_at record_shape i t) && eqb due 0 ≡ true → i ≡ length (before_payment n (rows_of record_shape records t))
+  payment_from : (k i n : ℕ) → i + k ≡ records → get_or (paying i k) n records ≡ i + length (before_payment n (rest record_shape records i t))
   unfolding before_payment
-  payment-here due i h f e =
-      let (p, q) = both (is_withdrawal (row_at record_shape i t)) (eqb due 0) e in
-      sym (f ∙ rw (rest_step record_shape records i t h, p, q) (omega arith))
-
-  pub payment_goes : (due i : ℕ) → i < records → PaymentFrom due i → is_withdrawal (row_at record_shape i t) && eqb due 0 ≡ false → PaymentFrom (cond (is_withdrawal (row_at record_shape i t)) (due - 1) due) (i + 1)
-  unfolding before_payment
-  payment_goes due i h f e = f ∙ rw (rest_step record_shape records i t h) (go (is_withdrawal (row_at record_shape i t)) (eqb due 0) e)
+  payment_from zero i n e = rw (rest_end record_shape records i t (omega arith)) (omega arith)
+  payment_from (suc k) i n e =
+      rw (rest_step record_shape records i t (omega arith)) (go n (is_withdrawal (row_at record_shape i t)) (payment_from k (i + 1) n (omega arith)) (payment_from k (i + 1) (n - 1) (omega arith)))
     where
       rs : List Record
       rs = rest record_shape records (i + 1) t
 
-      go : (p q : Bool) → p && q ≡ false
-          → i + length (cond p (cond q [] (row_at record_shape i t ∷ before_payment (due - 1) rs)) (row_at record_shape i t ∷ before_payment due rs))
-          ≡ i + 1 + length (before_payment (cond p (due - 1) due) rs)
-      go true true e = absurd (mathlib.Core.Bool.true≢false e)
-      go true false e = omega arith
-      go false q e = omega arith
+      go : (m : ℕ) (p : Bool) → get_or (paying (i + 1) k) m records ≡ i + 1 + length (before_payment m rs) → get_or (paying (i + 1) k) (m - 1) records ≡ i + 1 + length (before_payment (m - 1) rs)
+          → get_or (cond p (i ∷ paying (i + 1) k) (paying (i + 1) k)) m records
+          ≡ i + length (cond p (cond (eqb m 0) [] (row_at record_shape i t ∷ before_payment (m - 1) rs)) (row_at record_shape i t ∷ before_payment m rs))
+      go m false here next = here ∙ omega arith
+      go zero true here next = omega arith
+      go (suc m) true here next =
+          let e : suc m - 1 ≡ m = omega arith in
+          let f : get_or (paying (i + 1) k) m records ≡ i + 1 + length (before_payment m rs) = rw e at next in
+          rw (ne_eqb (suc m) 0 (λ z. omega arith), e, f) (omega arith)
 
-  pub payment_end : (due i : ℕ) → i ≡ records → PaymentFrom due i → records ≡ length (before_payment n (rows_of record_shape records t))
-  unfolding before_payment
-  payment_end due i e f = sym (f ∙ rw (rest_end record_shape records i t (omega arith)) (omega arith))
+  pub payment-nth : (n : ℕ) → get_or (paying 0 records) n records ≡ length (before_payment n (rows_of record_shape records t))
+  payment-nth n = payment_from records 0 n (omega arith) ∙ rw (rest_all record_shape records t) (omega arith)
 
 -- ---- whether there is one
 -- where there are no more withdrawals than n, all records come before it
@@ -122,7 +116,8 @@ replay-last [] r ls = refl
 replay-last (x ∷ h) r ls = replay-last h r (lots_after ls x)
 
 replay-rows : (t : List ℕ) (i : ℕ) → replay [] (rows_of record_shape (i + 1) t) ≡ lots_after (replay [] (rows_of record_shape i t)) (row_at record_shape i t)
-replay-rows t i = ap (replay []) (rows_last i t) ∙ replay-last (rows_of record_shape i t) (row_at record_shape i t) []
+unfolding rows_of
+replay-rows t i = ap (replay []) (rows_split record_shape i 1 t) ∙ replay-last (rows_of record_shape i t) (row_at record_shape i t) []
 
 pub replay-none : (t : List ℕ) (work : List Lot) → ReplaysAll 0 t 0 work
 unfolding replay rows_of
@@ -142,8 +137,3 @@ pub can_replay : (t : List ℕ) (work₀ held₀ : List Lot) (at i used : ℕ) (
 can_replay t work₀ held₀ at i used work held can l p q a =
     let few : used ≤ i = few-lots t i used work a in
     record { few = omega (arith, can.few); room = rw p (omega (arith, can.room)); scratch = rw q (omega (arith, can.scratch)) }
-
--- ---- one less, or not
-pub none-less : (really : Bool) (x : ℕ) → really && not (eqb x 0) ≡ false → x ≡ cond really (x - 1) x
-none-less true x e = omega (arith, eqb-true x 0 (not-false (eqb x 0) e))
-none-less false x e = refl

@@ -1,4 +1,5 @@
 -- One record's replay in the table of lots is the rules' replay, kind by kind, and never makes more than one lot more.
+use Rattle.std.specs.Prelude.{Ok, Err}
 use Prim.Native.Nat.{ℕ, ◌+◌, ◌≤◌}
 use mathlib.Core.Path.{◌≡◌, sym, ap, ap₂, ◌∙◌}
 use mathlib.Core.List.{List, [], ◌∷◌, ◌++◌, map}
@@ -7,7 +8,8 @@ use lib.ListN.{length, take, length-append, length-map}
 use lib.Seq.{length-take-le}
 use Rattle.rules.specs.declared.rows.Record.{Record}
 use Rattle.rules.specs.declared.rows.Lot.{Lot}
-use Rattle.rules.specs.History.{Kind, kind_of}
+use Rattle.rules.specs.declared.rows.Kind.{Kind}
+use Rattle.rules.specs.History.{kind_of}
 use Rattle.rules.specs.Lots.{of_member, taken_by, left_by, lot_of, lots_as}
 use Rattle.lots.proofs.Taking.{takes, takes_count}
 use Rattle.takings.specs.declared.work.Taking.{Taking}
@@ -33,11 +35,11 @@ module _ (r : Record) (used : ℕ) (work held : List Lot) (can : CanReplay used 
     pub few-after : t.kept + t.taken ≤ used + 1
     few-after = omega (arith, e.kept, e.taken, used_count, takes_count (takes r.first r.asset r.amount (take used work)))
 
-    pub replays-withdrawal : kind_of r ≡ Kind.withdrawal → (after : List Lot) → after ≡ left → Replays r used work t.kept after
+    pub replays-withdrawal : kind_of r ≡ (Ok Kind.Withdrawal) → (after : List Lot) → after ≡ left → Replays r used work t.kept after
     unfolding lots_as
     replays-withdrawal k after f = record { lots = rw (f, k) e.stay; count = rw k e.kept }
 
-    pub replays-transfer : kind_of r ≡ Kind.transfer → (after : List Lot) → after ≡ appended t.kept (map (of_member r.second) (take t.taken taken)) left → Replays r used work (t.kept + t.taken) after
+    pub replays-transfer : kind_of r ≡ (Ok Kind.Transfer) → (after : List Lot) → after ≡ appended t.kept (map (of_member r.second) (take t.taken taken)) left → Replays r used work (t.kept + t.taken) after
     unfolding lots_as
     replays-transfer k after f =
         let ps : List Lot = map (of_member r.second) (take t.taken taken) in
@@ -54,7 +56,7 @@ module _ (r : Record) (used : ℕ) (work held : List Lot) (can : CanReplay used 
         }
 
   -- ---- the other kinds
-  pub replays-claim : kind_of r ≡ Kind.claim → (after : List Lot) → after ≡ appended used (lot_of r ∷ []) work → Replays r used work (used + 1) after
+  pub replays-claim : kind_of r ≡ (Ok Kind.Claim) → (after : List Lot) → after ≡ appended used (lot_of r ∷ []) work → Replays r used work (used + 1) after
   unfolding lots_as
   replays-claim k after f =
       record {
@@ -62,10 +64,10 @@ module _ (r : Record) (used : ℕ) (work held : List Lot) (can : CanReplay used 
         count = rw (k, length-append (take used work) (lot_of r ∷ [])) (omega (arith, used_count));
       }
 
-  pub replays-grant : kind_of r ≡ Kind.grant → Replays r used work used work
+  pub replays-grant : kind_of r ≡ (Ok Kind.Grant) → Replays r used work used work
   unfolding lots_as
   replays-grant k = record { lots = rw k; count = rw k (sym used_count) }
 
-  pub replays-other : kind_of r ≡ Kind.other → Replays r used work used work
+  pub replays-other : kind_of r ≡ (Err (record {})) → Replays r used work used work
   unfolding lots_as
   replays-other k = record { lots = rw k; count = rw k (sym used_count) }

@@ -2,13 +2,13 @@
 // takes, as its pieces.
 #![tactic(auto)]
 
-ghost use Rattle.std.specs.Prelude.{◌≡◌, cond, ◌-◌, length};
+ghost use Rattle.std.specs.Prelude.{◌≡◌, length};
 ghost use Rattle.rules.specs.Tables.{rows_of, record_shape};
 ghost use Rattle.lots.specs.Traces.{before_payment};
 ghost use Rattle.replays.specs.Replaying.{CanReplay, Replays, CanReplayAll, ReplaysAll, CanTrace, Traces};
 
 use records::record_at;
-use rules::rows::{DepositNumber, Lot, Record};
+use rules::rows::{BadKind, DepositNumber, Kind, Lot, Record};
 use takings::rows::{append, clear};
 use takings::work::{join, take_from};
 
@@ -17,25 +17,10 @@ use takings::work::{join, take_from};
 pub fn payment_at(history: &[u64], records: usize, n: u64) -> usize
     ensures { result ≡ length (before_payment n (rows_of record_shape records history.now)) }
 {
-    let mut left = n;
-    let mut i: usize = 0;
-    while i < records {
-        let r = record_at(history, i);
-        let pays = r.kind == 3;
-        if pays & (left == 0) {
-            return i;
-        }
-        left = one_less(left, pays);
-        i += 1;
-    }
-    records
-}
-
-// The count with one payment more behind, if this record is one.
-fn one_less(x: u64, really: bool) -> u64
-    ensures { result ≡ cond really (x - 1) x }
-{
-    if really & (x != 0) { x - 1 } else { x }
+    (0..records)
+        .filter(|i| record_at(history, *i).kind == Kind::Withdrawal as u64)
+        .nth(n as usize)
+        .unwrap_or(records)
 }
 
 // The pieces of payment n into the first rows of their table; "every row of the work table ends as
@@ -65,12 +50,9 @@ fn replayed_until(history: &[u64], at: usize, work: &mut [Lot], held: &mut [Lot]
     requires { CanReplayAll at work.old held.old }
     ensures { ReplaysAll at history.now result work.new }
 {
-    let mut used: usize = 0;
-    let mut i: usize = 0;
-    while i < at {
-        let r = record_at(history, i);
-        used = replayed(work, used, held, r);
-        i += 1;
+    let mut used = 0;
+    for i in 0..at {
+        used = replayed(work, used, held, record_at(history, i));
     }
     used
 }
@@ -80,29 +62,24 @@ fn replayed(work: &mut [Lot], used: usize, held: &mut [Lot], r: Record) -> usize
     requires { CanReplay used work.old held.old }
     ensures { Replays r used work.old result work.new }
 {
-    let kind = r.kind;
-    match kind {
-        1 => {
-            let number = DepositNumber(r.second);
+    match Kind::try_from(r.kind) {
+        Ok(Kind::Claim) => {
             let l = Lot {
                 member: r.first,
                 asset: r.asset,
-                number,
+                number: DepositNumber(r.second),
                 amount: r.amount,
             };
             append(work, used, l);
             used + 1
         }
-        2 => {
+        Ok(Kind::Transfer) => {
             let t = take_from(work, used, held, r.first, r.asset, r.amount);
             join(work, t.kept, held, t.taken, r.second);
             t.kept + t.taken
         }
-        3 => {
-            let t = take_from(work, used, held, r.first, r.asset, r.amount);
-            t.kept
-        }
-        4 => used,
-        _ => used,
+        Ok(Kind::Withdrawal) => take_from(work, used, held, r.first, r.asset, r.amount).kept,
+        Ok(Kind::Grant) => used,
+        Err(BadKind) => used,
     }
 }

@@ -1,7 +1,6 @@
 -- Any two results that a public function's contract allows coincide (`Coincide` of `rules`).
 use Rattle.rules.specs.Coincide.{Coincide}
-use Rattle.rules.proofs.Coincide.{value}
-use Rattle.pages.proofs.Once.{written}
+use Rattle.rules.proofs.Coincide.{value, first}
 use Rattle.replies.specs.contracts.reply_number as reply-number
 use Rattle.replies.specs.contracts.refusal_number as refusal_number
 use Rattle.replies.specs.contracts.put_reply as put-reply
@@ -17,16 +16,16 @@ pub refusal_number_once : Coincide refusal_number.ended (λ M 𝓤 𝓛. refusal
 refusal_number_once w x g = value w
 
 pub put_reply_once : Coincide put-reply.ended (λ M 𝓤 𝓛. put-reply.clauses 𝓛)
-put_reply_once w x g = written w
+put_reply_once w x g = first w
 
 pub put_piece_once : Coincide put-piece.ended (λ M 𝓤 𝓛. put-piece.clauses 𝓛)
-put_piece_once w x g = written w
+put_piece_once w x g = first w
 
 pub put_answer_once : Coincide put-answer.ended (λ M 𝓤 𝓛. put-answer.clauses 𝓛)
-put_answer_once w x g = written w
+put_answer_once w x g = first w
 
 pub put_reply_line_once : Coincide put-reply-line.ended (λ M 𝓤 𝓛. put-reply-line.clauses 𝓛)
-put_reply_line_once w x g = written w
+put_reply_line_once w x g = first w
 
 pub put_end_once : Coincide put-end.ended (λ M 𝓤 𝓛. put-end.clauses 𝓛)
-put_end_once w x g = written w
+put_end_once w x g = first w

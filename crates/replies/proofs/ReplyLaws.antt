@@ -10,24 +10,23 @@ use Rattle.rules.specs.Replies.{Reply, told_refusal}
 use Rattle.rules.specs.Answer.{Outcome}
 use Rattle.rules.specs.Transcript.{piece_values, reply_text}
 use Rattle.rules.proofs.Laying.{joined_append}
-use Rattle.rules.proofs.Told.{Telling}
+use Rattle.rules.proofs.Told.{Telling, telling}
 use Rattle.pages.specs.Writing.{Page, put}
 use Rattle.pages.proofs.PageLaws.{put_then, put-values, tabbed-append}
 use Rattle.replies.specs.Writing.{reply_start, reply_line}
+
+-- ---- a value, and those after it
+pub put_more_values : (p : Page) {q r : Page} (x : ℕ) (ys : List ℕ) → q ≡ put p (tabbed (x ∷ [])) → r ≡ put q (tabbed ys) → r ≡ put p (tabbed (x ∷ ys))
+put_more_values p x ys e f = put-values p (x ∷ []) ys e f
 
 -- ---- the line of a reply
 start-values : (n : ℕ) (r : Reply) → reply_start n r ≡ decimal n ++ tabbed (r.number ∷ []) ++ tabbed r.values
 unfolding reply_start
 start-values n r = rw (tabbed-append (r.number ∷ []) r.values, ← append_assoc (decimal n) (tabbed (r.number ∷ [])) (tabbed r.values))
 
--- its number alone, and its number and values
-pub start_alone : (p : Page) {q : Page} (n m : ℕ) (r : Reply) → m ≡ r.number → r.values ≡ [] → q ≡ put p (decimal n ++ tabbed (m ∷ [])) → q ≡ put p (reply_start n r)
-unfolding reply_start
-start_alone p n m r e v h = rw (v, ← e) h
-
-pub start-told : (p : Page) {q s : Page} (n m : ℕ) (r : Reply) (vs : List ℕ) → m ≡ r.number → r.values ≡ vs → q ≡ put p (decimal n ++ tabbed (m ∷ []))
-    → s ≡ put q (tabbed vs) → s ≡ put p (reply_start n r)
-start-told p n m r vs e v h k = rw (start-values n r, v, ← e) (put_then p (decimal n ++ tabbed (m ∷ [])) (tabbed vs) h k)
+-- its number, and then its values
+pub start_written : (p : Page) {q s : Page} (n m : ℕ) (r : Reply) → m ≡ r.number → q ≡ put p (decimal n ++ tabbed (m ∷ [])) → s ≡ put q (tabbed r.values) → s ≡ put p (reply_start n r)
+start_written p n m r e h k = rw (start-values n r, ← e) (put_then p (decimal n ++ tabbed (m ∷ [])) (tabbed r.values) h k)
 
 -- a reply's line is its start, its pieces and a line feed
 pub reply-text : (n : ℕ) (o : Outcome) → reply_text n o ≡ reply_start n o.reply ++ tabbed (joined piece_values o.pieces) ++ (line_feed ∷ [])
@@ -47,7 +46,11 @@ unfolding joined
 put-pieces p ls l e f = rw (joined_append piece_values ls (l ∷ [])) (put-values p (joined piece_values ls) (piece_values l) e f)
 
 -- a refusal that is no Malformed tells its number alone
-pub number_alone : {r : Refusal} → Telling r → ((k : ℕ) → r ≡ Refusal.Malformed k → ⊥) → (told_refusal r).values ≡ []
+number_alone : {r : Refusal} → Telling r → ((k : ℕ) → r ≡ Refusal.Malformed k → ⊥) → (told_refusal r).values ≡ []
 unfolding told_refusal
 number_alone (Telling.field k) h = absurd (h k refl)
 number_alone (Telling.alone q) h = ap (λ (x : Reply). x.values) q
+
+pub no_field : (p : Page) (r : Refusal) → ((k : ℕ) → r ≡ Refusal.Malformed k → ⊥) → p ≡ put p (tabbed (told_refusal r).values)
+unfolding tabbed joined put
+no_field p r h = rw (number_alone (telling r) h)

@@ -1,100 +1,103 @@
-// The reply writer: a reply's line and the last line on a page of the caller's, from a place on. Each
-// function answers the place after what it wrote, as those of `pages` do.
+// The reply writer: a reply's line and the last line, on a page of the caller's.
 #![tactic(auto)]
 
 ghost use Rattle.std.specs.Prelude.{◌≡◌, [], ◌∷◌, ◌++◌};
 ghost use Rattle.rules.specs.Replies.{told_refusal, number_of, told};
 ghost use Rattle.rules.specs.Lines.{decimal, tabbed};
 ghost use Rattle.rules.specs.Transcript.{piece_values, end_text};
-ghost use Rattle.pages.specs.Writing.{page, put};
+ghost use Rattle.pages.specs.Writing.{put};
 ghost use Rattle.replies.specs.Writing.{reply_start, reply_line};
 
-use pages::{put_bytes, put_decimal, put_line_feed, put_value};
-use rules::answers::{Answer, Refusal, Tally};
+use pages::Page;
+use rules::answers::{Answer, Done, Refusal, Tally};
 use rules::rows::{Lot, Payment};
 
 // "For each line it writes line number and reply number."
-pub fn put_reply(out: &mut [u8], at: usize, line: u64, reply: u64) -> usize
-    ensures { page out.new result ≡ put (page out.old at) (decimal line ++ tabbed (reply ∷ [])) }
+#[tactic(auto, using(pages::proofs::PageLaws::put_then))]
+pub fn put_reply(page: &mut Page, line: u64, reply: u64)
+    ensures { page.new ≡ put page.old (decimal line ++ tabbed (reply ∷ [])) }
 {
-    let p = put_decimal(out, at, line);
-    put_value(out, p, reply)
+    page.put_decimal(line);
+    page.put_value(reply);
 }
 
 // "After a Done send also nonce, asset, amount, payee."
-fn put_payment(out: &mut [u8], at: usize, x: Payment) -> usize
-    ensures { page out.new result ≡ put (page out.old at) (tabbed (x.nonce.0 ∷ x.asset ∷ x.amount ∷ x.payee ∷ [])) }
+#[tactic(auto, using(crate::proofs::ReplyLaws::put_more_values))]
+fn put_payment(page: &mut Page, x: Payment)
+    ensures { page.new ≡ put page.old (tabbed (x.nonce.0 ∷ x.asset ∷ x.amount ∷ x.payee ∷ [])) }
 {
-    let nonce = x.nonce;
-    let p = put_value(out, at, nonce.0);
-    let p = put_value(out, p, x.asset);
-    let p = put_value(out, p, x.amount);
-    put_value(out, p, x.payee)
+    page.put_value(x.nonce.0);
+    page.put_value(x.asset);
+    page.put_value(x.amount);
+    page.put_value(x.payee);
 }
 
 // "Deposit number and amount for each piece."
-pub fn put_piece(out: &mut [u8], at: usize, x: Lot) -> usize
-    ensures { page out.new result ≡ put (page out.old at) (tabbed (piece_values x)) }
+#[tactic(auto, using(crate::proofs::ReplyLaws::put_more_values))]
+pub fn put_piece(page: &mut Page, x: Lot)
+    ensures { page.new ≡ put page.old (tabbed (piece_values x)) }
 {
-    let number = x.number;
-    let p = put_value(out, at, number.0);
-    put_value(out, p, x.amount)
+    page.put_value(x.number.0);
+    page.put_value(x.amount);
 }
 
 // A reply's line up to its pieces: line number, reply number, and the values that the answer tells.
-pub fn put_answer(out: &mut [u8], at: usize, line: u64, a: Answer) -> usize
-    ensures { page out.new result ≡ put (page out.old at) (reply_start line (told a)) }
+#[tactic(auto, using(crate::proofs::ReplyLaws::start_written), unfolding(rules::specs::Replies::told, rules::specs::Lines::tabbed, rules::specs::Lists::joined, pages::specs::Writing::put))]
+pub fn put_answer(page: &mut Page, line: u64, a: Answer)
+    ensures { page.new ≡ put page.old (reply_start line (told a)) }
 {
-    let p = put_reply(out, at, line, reply_number(a));
+    put_reply(page, line, reply_number(a));
     match a {
-        Answer::Done => p,
-        Answer::Sent(x) => put_payment(out, p, x),
-        Answer::Traced(n) => put_value(out, p, n as u64),
-        Answer::Refused(why) => put_field(out, p, why),
+        Ok(Done::Plain) => {}
+        Ok(Done::Sent(x)) => put_payment(page, x),
+        Ok(Done::Traced(n)) => page.put_value(n as u64),
+        Err(why) => put_field(page, why),
     }
 }
 
 // "The runner adds the field number after reply 1."
-fn put_field(out: &mut [u8], at: usize, why: Refusal) -> usize
-    ensures { page out.new result ≡ put (page out.old at) (tabbed (told_refusal why).values) }
+#[tactic(auto, using(crate::proofs::ReplyLaws::no_field), unfolding(rules::specs::Replies::told_refusal))]
+fn put_field(page: &mut Page, why: Refusal)
+    ensures { page.new ≡ put page.old (tabbed (told_refusal why).values) }
 {
-    let Refusal::Malformed(k) = why else {
-        return at;
-    };
-    put_value(out, at, k)
+    if let Refusal::Malformed(k) = why {
+        page.put_value(k);
+    }
 }
 
 // The whole line of an answer without pieces.
-pub fn put_reply_line(out: &mut [u8], at: usize, line: u64, a: Answer) -> usize
-    ensures { page out.new result ≡ put (page out.old at) (reply_line line (told a)) }
+#[tactic(auto, using(pages::proofs::PageLaws::put_then), unfolding(crate::specs::Writing::reply_line))]
+pub fn put_reply_line(page: &mut Page, line: u64, a: Answer)
+    ensures { page.new ≡ put page.old (reply_line line (told a)) }
 {
-    let p = put_answer(out, at, line, a);
-    put_line_feed(out, p)
+    put_answer(page, line, a);
+    page.put_line_feed();
 }
 
 // "Last comes `end`, the number of replies 0 and of other replies."
-pub fn put_end(out: &mut [u8], at: usize, t: Tally) -> usize
-    ensures { page out.new result ≡ put (page out.old at) (end_text t) }
+pub fn put_end(page: &mut Page, t: Tally)
+    ensures { page.new ≡ put page.old (end_text t) }
 {
-    let p = put_bytes(out, at, b"end");
-    let p = put_value(out, p, t.done);
-    let p = put_value(out, p, t.other);
-    put_line_feed(out, p)
+    page.put_bytes(b"end");
+    page.put_value(t.done);
+    page.put_value(t.other);
+    page.put_line_feed();
 }
 
 // The number that an answer is told as.
+#[tactic(auto, unfolding(rules::specs::Replies::told))]
 pub fn reply_number(a: Answer) -> u64
     ensures { result ≡ (told a).number }
 {
     match a {
-        Answer::Done => 0,
-        Answer::Sent(_) => 0,
-        Answer::Traced(_) => 0,
-        Answer::Refused(why) => refusal_number(why),
+        Ok(_) => 0,
+        Err(why) => refusal_number(why),
     }
 }
 
-// Document 01's table of reply numbers.
+// Document 01's table of reply numbers. It is a match: an enum whose first reason has a field has no `as`, and no
+// derive gives the numbers.
+#[tactic(auto, unfolding(rules::specs::Replies::told_refusal))]
 pub fn refusal_number(why: Refusal) -> u64
     ensures { result ≡ number_of why }
 {

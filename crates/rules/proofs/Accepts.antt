@@ -1,4 +1,5 @@
 -- What acceptance gives, and what a call leaves: shared by the proofs of the code and by the promises.
+use Rattle.std.specs.Prelude.{Ok}
 use Prim.Native.Nat.{ℕ, zero, suc, ◌+◌, ◌≤◌, ◌<◌}
 use mathlib.Core.Path.{◌≡◌, refl, sym, ◌∙◌}
 use mathlib.Core.Logic.{◌≢◌}
@@ -24,7 +25,7 @@ use Rattle.rules.proofs.Tests.{twice_not, not-holds, neither, within_true, all-a
 
 -- ---- the number in a reply
 -- what a done call tells has the number 0
-done-told : (s : State) (c : Call) → (told (done_answer s c)).number ≡ 0
+done-told : (s : State) (c : Call) → (told (Ok (done_answer s c))).number ≡ 0
 unfolding told done_answer
 done-told s (Call.Deposit d) = refl
 done-told s (Call.Claim c) = refl
@@ -44,7 +45,7 @@ reply-with (suc n) r h = refl
 -- the number in the reply is the number that the rules give
 pub reply-number : (b : Book) (c : Call) → (answer b c).reply.number ≡ reply_number b c
 unfolding answer
-reply-number b c = reply-with (reply_number b c) (told (done_answer (view b) c)) (done-told (view b) c)
+reply-number b c = reply-with (reply_number b c) (told (Ok (done_answer (view b) c))) (done-told (view b) c)
 
 -- a call is accepted where that number is 0, and only there
 pub accepted-number : (b : Book) (c : Call) → Accepted b c → reply_number b c ≡ 0

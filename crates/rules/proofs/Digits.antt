@@ -1,4 +1,5 @@
 -- A number's digits read back: what the writer spells is a field, and the field's value is the number.
+use Rattle.std.specs.Prelude.{Ok}
 use Prim.Native.Nat.{ℕ, zero, suc, ◌+◌, ◌-◌, ◌*◌, ◌/◌, ◌%◌, ◌^◌, ◌≤◌, ◌<◌}
 use mathlib.Core.Path.{◌≡◌, refl}
 use mathlib.Core.Bool.{Bool, true, false, ◌&&◌, cond, and_assoc, and-eq-true_iff}
@@ -8,7 +9,6 @@ use native.Mathlib.Omega.{arith}
 use lib.Dec.{ltb, eqb}
 use lib.ListN.{length, get_or, length-append, get_or-append}
 use borrow.Author.Tests.{ltb-true, ltb-false, lt-ltb, le-leb, ne_eqb}
-use Rattle.rules.specs.Types.{Field}
 use Rattle.rules.specs.Limits.{highest_field}
 use Rattle.rules.specs.Lists.{all}
 use Rattle.rules.specs.Lines.{is_digit, value_after, reads_as_number, number, spelled, decimal}
@@ -89,7 +89,7 @@ unfolding decimal
 decimal_spells n h = spells 19 n (omega arith)
 
 -- and its field reads as that number
-pub number-decimal : (k n : ℕ) → n ≤ highest_field → number k (decimal n) ≡ Field.Number n
+pub number-decimal : (k n : ℕ) → n ≤ highest_field → number k (decimal n) ≡ Ok n
 unfolding number reads_as_number decimal spelled all value_after
 number-decimal k zero h = refl
 number-decimal k (suc n) h =

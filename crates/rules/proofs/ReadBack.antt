@@ -1,4 +1,5 @@
 -- Reading a line that the writer wrote gives the call back, for every call whose fields fit in a line that is not too long.
+use Rattle.std.specs.Prelude.{Ok}
 use Prim.Native.Nat.{ℕ, ◌+◌, ◌*◌, ◌≤◌}
 use mathlib.Core.Path.{◌≡◌, refl, sym, ap, ◌∙◌}
 use mathlib.Core.Bool.{Bool, true, false, not, and-eq-true_iff}
@@ -7,7 +8,7 @@ use native.Mathlib.Omega.{arith}
 use lib.Dec.{leb, eqb}
 use lib.ListN.{length, length-append}
 use borrow.Author.Tests.{leb-true, le-leb, ne_eqb, eqb-true, eqb-false, not-true}
-use Rattle.rules.specs.Types.{Call, Line}
+use Rattle.rules.specs.Types.{Call}
 use Rattle.rules.specs.Limits.{highest_field, most_bytes}
 use Rattle.rules.specs.Lists.{all, same, index_of, joined, bytes}
 use Rattle.rules.specs.Lines.{tab, fields_from, fields, field_end, first_field, after_field, fields_after, is_digit, Numbers, and_read, wanted, Form, deposit_form, claim_form, transfer_form, withdraw_form, send_form, settle_form, grant_form, sign_form, trace_form, forms, formed, read_as, read_fields, read_line, decimal, tabbed, form_of, numbers_of, write_line}
@@ -101,13 +102,13 @@ alone (Call.Trace n) fs = refl
 
 -- a form's word without a tab, and as many numbers that fit as it wants, in a line that is not too long: read, it is the form's call
 read_written : (g : Form) → Alone g → untabbed g.word ≡ true → (ns : List ℕ) → length ns ≡ g.count → fitting ns ≡ true → length (g.word ++ tabbed ns) ≤ most_bytes
-    → read_line (g.word ++ tabbed ns) ≡ Line.Reads (g.call ns)
+    → read_line (g.word ++ tabbed ns) ≡ Ok (g.call ns)
 unfolding read_line read_fields formed
 read_written g a u ns n f short =
     rw (le-leb (length (g.word ++ tabbed ns)) most_bytes short, fields-tabbed g.word ns u f) (a (map decimal ns) ∙ rw (← n, numbers-decimal 1 ns f))
 
 -- so every call that is written is read back
-pub read_back : (c : Call) → fitting (numbers_of c) ≡ true → length (write_line c) ≤ most_bytes → read_line (write_line c) ≡ Line.Reads c
+pub read_back : (c : Call) → fitting (numbers_of c) ≡ true → length (write_line c) ≤ most_bytes → read_line (write_line c) ≡ Ok c
 unfolding all bytes form_of numbers_of write_line deposit_form claim_form transfer_form withdraw_form send_form settle_form grant_form sign_form trace_form
 read_back (Call.Deposit d) = read_written deposit_form (alone (Call.Deposit d)) refl (numbers_of (Call.Deposit d)) refl
 read_back (Call.Claim c) = read_written claim_form (alone (Call.Claim c)) refl (numbers_of (Call.Claim c)) refl

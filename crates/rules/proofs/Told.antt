@@ -7,8 +7,10 @@ use lib.Dec.{eqb, lit≤}
 use lib.ListN.{get_or}
 use native.Mathlib.Omega.{arith}
 use borrow.Author.Tests.{ne_eqb}
-use Rattle.rules.specs.Types.{Refusal, Answer, Answered, Origin}
-use Rattle.rules.specs.Replies.{Reply, plain, told_refusal, number_of, told, told_origin}
+use Rattle.std.specs.Prelude.{Result, Ok, Err}
+use Rattle.rules.specs.Types.{Refusal, Done, Answer}
+use Rattle.rules.specs.State.{Book}
+use Rattle.rules.specs.Replies.{Reply, plain, told_refusal, number_of, told, answered, plainly, told_origin}
 use Rattle.rules.specs.Answer.{Outcome, outcome_of}
 
 -- ---- the refusal of a reply
@@ -121,50 +123,61 @@ telling Refusal.NoSuchPayment = Telling.alone refl
 
 -- ---- the answer of a reply
 untold_done : List ℕ → Answer
-untold_done [] = Answer.Done
-untold_done (n ∷ []) = Answer.Traced n
-untold_done (n ∷ a ∷ vs) = Answer.Sent (record { asset = a; amount = get_or vs 0 0; payee = get_or vs 1 0; nonce = record { 0 = n } })
+untold_done [] = (Ok Done.Plain)
+untold_done (n ∷ []) = Ok (Done.Traced n)
+untold_done (n ∷ a ∷ vs) = Ok (Done.Sent (record { asset = a; amount = get_or vs 0 0; payee = get_or vs 1 0; nonce = record { 0 = n } }))
 
 untold : Reply → Answer
-untold r = cond (eqb r.number 0) (untold_done r.values) (Answer.Refused (refusal_of r))
+untold r = cond (eqb r.number 0) (untold_done r.values) (Err (refusal_of r))
 
 not-nought : (n : ℕ) → 1 ≤ n → eqb n 0 ≡ false
 not-nought n h = ne_eqb n 0 (λ e. omega arith)
 
 untold_told : (a : Answer) → untold (told a) ≡ a
 unfolding untold untold_done told
-untold_told Answer.Done = refl
-untold_told (Answer.Sent p) = refl
-untold_told (Answer.Traced n) = refl
-untold_told (Answer.Refused r) = rw (not-nought (number_of r) (refusal_number r), refusal_back r)
+untold_told (Ok Done.Plain) = refl
+untold_told (Ok (Done.Sent p)) = refl
+untold_told (Ok (Done.Traced n)) = refl
+untold_told (Err r) = rw (not-nought (number_of r) (refusal_number r), refusal_back r)
 
 pub told_once : (a b : Answer) → told a ≡ told b → a ≡ b
 told_once a b e = sym (untold_told a) ∙ ap untold e ∙ untold_told b
 
 -- the same of the question for a provenance
-untold_origin : Reply → Origin
-untold_origin r = cond (eqb r.number 0) (Origin.Amount (get_or r.values 0 0)) (Origin.Refused (refusal_of r))
+untold_origin : Reply → Result ℕ Refusal
+untold_origin r = cond (eqb r.number 0) (Ok (get_or r.values 0 0)) (Err (refusal_of r))
 
-untold_origin_lem : (o : Origin) → untold_origin (told_origin o) ≡ o
+untold_origin_lem : (o : Result ℕ Refusal) → untold_origin (told_origin o) ≡ o
 unfolding untold_origin told_origin
-untold_origin_lem (Origin.Amount n) = refl
-untold_origin_lem (Origin.Refused r) = rw (not-nought (number_of r) (refusal_number r), refusal_back r)
+untold_origin_lem (Ok n) = refl
+untold_origin_lem (Err r) = rw (not-nought (number_of r) (refusal_number r), refusal_back r)
 
-pub origin_once : (a b : Origin) → told_origin a ≡ told_origin b → a ≡ b
+pub origin_once : (a b : Result ℕ Refusal) → told_origin a ≡ told_origin b → a ≡ b
 origin_once a b e = sym (untold_origin_lem a) ∙ ap untold_origin e ∙ untold_origin_lem b
 
 -- ---- any two results that a call's contract allows coincide: the answer, the desk and every number of the tables
-pub outcome_once : (o : Outcome) {r r' : Answered} {i i' b b' h h' : List ℕ} → outcome_of r i b h ≡ o → outcome_of r' i' b' h' ≡ o
-    → (r ≡ r') × (i ≡ i') × (b ≡ b') × (h ≡ h')
-outcome_once o {r} {r'} {i} {i'} {b} {b'} {h} {h'} p q =
-    let e : outcome_of r i b h ≡ outcome_of r' i' b' h' = p ∙ sym q in
-    let a : r.answer ≡ r'.answer = told_once r.answer r'.answer (ap (λ (x : Outcome). x.reply) e) in
-    let d : r.desk ≡ r'.desk = ap (λ (x : Outcome). x.book.desk) e in (
-      λ i. record { answer = a i; desk = d i },
-      ap (λ (x : Outcome). x.book.inbox) e,
-      ap (λ (x : Outcome). x.book.outbox) e,
-      ap (λ (x : Outcome). x.book.history) e,
+pub outcome_once : (o : Outcome) {a a' : Answer} {b b' : Book} → outcome_of a b ≡ o → outcome_of a' b' ≡ o → (a ≡ a') × (b ≡ b')
+outcome_once o {a} {a'} {b} {b'} p q =
+    let e : outcome_of a b ≡ outcome_of a' b' = p ∙ sym q in (
+      told_once a a' (ap (λ (x : Outcome). x.reply) e),
+      ap (λ (x : Outcome). x.book) e,
     )
+
+-- what a call of the library answers determines what it gives
+taken_from : {A : Type 0} → A → (Done → A) → Answer → Result A Refusal
+taken_from x f (Ok d) = Ok (f d)
+taken_from x f (Err r) = Err r
+
+taken_back : {A : Type 0} (x : A) (gives : A → Done) (f : Done → A) → ((y : A) → f (gives y) ≡ y) → (r : Result A Refusal) → taken_from x f (answered gives r) ≡ r
+unfolding taken_from
+taken_back x gives f h (Ok y) = ap Ok (h y)
+taken_back x gives f h (Err r) = refl
+
+pub answered_once : {A : Type 0} (x : A) (gives : A → Done) (f : Done → A) → ((y : A) → f (gives y) ≡ y) → {r r' : Result A Refusal} → answered gives r ≡ answered gives r' → r ≡ r'
+answered_once x gives f h {r} {r'} e = sym (taken_back x gives f h r) ∙ ap (taken_from x f) e ∙ taken_back x gives f h r'
+
+pub plainly_once : {r r' : Result (Unit {0}) Refusal} → plainly r ≡ plainly r' → r ≡ r'
+plainly_once e = answered_once tt (λ u. Done.Plain) (λ d. tt) (λ u. refl) e
 
 -- of a function whose contract is an equation for its result
 pub once : {A : Type 0} (x : A) {r r' : A} → r ≡ x → r' ≡ x → r ≡ r'

@@ -1,6 +1,6 @@
 -- What every call answers and leaves, on every book: out of frame comes first, a refusal leaves everything as found, and what is done is laid back into the tables.
-use Rattle.std.specs.Prelude.{ℕ, Bool, not, ◌||◌, List, [], ◌∷◌, ◌++◌, length, drop, replicate}
-use Rattle.rules.specs.Types.{Nonce, Lot, Refusal, Call, Answer, Answered, Origin, Desk}
+use Rattle.std.specs.Prelude.{Ok, ℕ, Bool, not, ◌||◌, List, [], ◌∷◌, ◌++◌, length, drop, replicate}
+use Rattle.rules.specs.Types.{Nonce, Lot, Refusal, Call, Done, Answer, Desk}
 use Rattle.rules.specs.State.{State, Book, view, laid, history_of}
 use Rattle.rules.specs.Replies.{Reply, told, told_origin, refuse, smallest, if_done, plain}
 use Rattle.rules.specs.Refusals.{table, trace_refusals, bad_member, bad_asset}
@@ -55,17 +55,17 @@ pieces_of s (Call.Grant g) = []
 pieces_of s (Call.Sign g) = []
 pieces_of s (Call.Trace n) = pieces s.history n
 
--- what a done call answers: a send the payment, a trace the piece count
-unfoldable pub done_answer : State → Call → Answer
-done_answer s (Call.Deposit d) = Answer.Done
-done_answer s (Call.Claim c) = Answer.Done
-done_answer s (Call.Transfer t) = Answer.Done
-done_answer s (Call.Withdraw w) = Answer.Done
-done_answer s Call.Send = Answer.Sent (oldest s.outside.waiting)
-done_answer s (Call.Settle n) = Answer.Done
-done_answer s (Call.Grant g) = Answer.Done
-done_answer s (Call.Sign g) = Answer.Done
-done_answer s (Call.Trace n) = Answer.Traced (length (pieces_of s (Call.Trace n)))
+-- what a done call gives: a send the payment, a trace the piece count
+unfoldable pub done_answer : State → Call → Done
+done_answer s (Call.Deposit d) = Done.Plain
+done_answer s (Call.Claim c) = Done.Plain
+done_answer s (Call.Transfer t) = Done.Plain
+done_answer s (Call.Withdraw w) = Done.Plain
+done_answer s Call.Send = Done.Sent (oldest s.outside.waiting)
+done_answer s (Call.Settle n) = Done.Plain
+done_answer s (Call.Grant g) = Done.Plain
+done_answer s (Call.Sign g) = Done.Plain
+done_answer s (Call.Trace n) = Done.Traced (length (pieces_of s (Call.Trace n)))
 
 -- what a call gives, and the book as it leaves it
 pub record Outcome : Type 0 where
@@ -73,17 +73,17 @@ pub record Outcome : Type 0 where
   pub pieces : List Lot
   pub book : Book
 
--- a desk with three tables as a book, and what a call gives back with the tables as it leaves them as an outcome
+-- a desk with three tables as a book, and what a call answers with the book as it leaves it as an outcome
 abbrev pub book_of : Desk → List ℕ → List ℕ → List ℕ → Book
 book_of d inbox outbox history = record { desk = d; inbox = inbox; outbox = outbox; history = history }
 
-abbrev pub outcome_of : Answered → List ℕ → List ℕ → List ℕ → Outcome
-outcome_of r inbox outbox history = record { reply = told r.answer; pieces = []; book = book_of r.desk inbox outbox history }
+abbrev pub outcome_of : Answer → Book → Outcome
+outcome_of a b = record { reply = told a; pieces = []; book = b }
 
 unfoldable pub answer : Book → Call → Outcome
 answer b c =
     record {
-      reply = reply_with (reply_number b c) (told (done_answer (view b) c));
+      reply = reply_with (reply_number b c) (told (Ok (done_answer (view b) c)));
       pieces = if_done (reply_number b c) (pieces_of (view b) c) [];
       book = if_done (reply_number b c) (done c b) b;
     }
@@ -104,7 +104,7 @@ trace_number b work out n = smallest (bad_history b ∷ trace_refusals (length w
 unfoldable pub trace_answer : Book → List Lot → List Lot → Nonce → TraceOutcome
 trace_answer b work out n =
     record {
-      reply = reply_with (trace_number b work out n) (told (Answer.Traced (length (pieces (history_of b) n))));
+      reply = reply_with (trace_number b work out n) (told (Ok (Done.Traced (length (pieces (history_of b) n)))));
       work = if_done (trace_number b work out n) (replicate (length work) no_lot) work;
       pieces = if_done (trace_number b work out n) (in_front (pieces (history_of b) n) out) out;
     }
@@ -114,4 +114,4 @@ unfoldable pub provenance_number : Book → ℕ → ℕ → ℕ
 provenance_number b m a = smallest (bad_history b ∷ bad_member m ∷ bad_asset a ∷ [])
 
 unfoldable pub provenance_answer : Book → ℕ → ℕ → Reply
-provenance_answer b m a = reply_with (provenance_number b m a) (told_origin (Origin.Amount (provenance_of m a (history_of b))))
+provenance_answer b m a = reply_with (provenance_number b m a) (told_origin (Ok (provenance_of m a (history_of b))))

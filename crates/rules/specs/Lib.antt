@@ -1,4 +1,5 @@
 -- The rules of document 01 as definitions, each of which uses only those above it.
+pub mod Kinds
 pub mod Types
 pub mod Lists
 pub mod Limits

@@ -1,6 +1,6 @@
 -- Document 01, "Lines", and document 02, "Say which field": fields, numbers, the nine forms of a line, and a writer of lines. A line's bytes stand without its line feed.
-use Rattle.std.specs.Prelude.{ℕ, zero, suc, ◌+◌, ◌-◌, ◌*◌, ◌/◌, ◌%◌, Bool, not, ◌&&◌, cond, List, [], ◌∷◌, ◌++◌, leb, ltb, eqb, length, get_or, take, drop}
-use Rattle.rules.specs.Types.{Call, Field, Line}
+use Rattle.std.specs.Prelude.{ℕ, zero, suc, ◌+◌, ◌-◌, ◌*◌, ◌/◌, ◌%◌, Bool, not, ◌&&◌, cond, List, [], ◌∷◌, ◌++◌, Result, Ok, Err, leb, ltb, eqb, length, get_or, take, drop}
+use Rattle.rules.specs.Types.{Call, FailsAt, Field, Line}
 use Rattle.rules.specs.Limits.{within, most_bytes, most_digits, highest_field}
 use Rattle.rules.specs.Lists.{all, same, index_of, joined, bytes}
 
@@ -50,9 +50,13 @@ leading_zero f = eqb (get_or f 0 0) 48 && ltb 1 (length f)
 unfoldable pub reads_as_number : List ℕ → Bool
 reads_as_number f = within 1 most_digits (length f) && (all is_digit f && (not (leading_zero f) && leb (value_after 0 f) highest_field))
 
--- "The field reader is to give the field where reading failed": what field k of a line reads as
+-- "The field reader is to give the field where reading failed."
+abbrev pub failing : {A : Type 0} → ℕ → Result A FailsAt
+failing k = Err (record { 0 = k })
+
+-- what field k of a line reads as
 unfoldable pub number : ℕ → List ℕ → Field
-number k f = cond (reads_as_number f) (Field.Number (value_after 0 f)) (Field.FailsAt k)
+number k f = cond (reads_as_number f) (Ok (value_after 0 f)) (failing k)
 
 -- the numbers after a line's word, or the first field that does not read
 pub data Numbers : Type 0 where
@@ -60,9 +64,9 @@ pub data Numbers : Type 0 where
   fails_at : ℕ → Numbers
 
 unfoldable pub and_read : Field → Numbers → Numbers
-and_read (Field.Number n) (Numbers.all_read ns) = Numbers.all_read (n ∷ ns)
-and_read (Field.Number n) (Numbers.fails_at k) = Numbers.fails_at k
-and_read (Field.FailsAt k) ns = Numbers.fails_at k
+and_read (Ok n) (Numbers.all_read ns) = Numbers.all_read (n ∷ ns)
+and_read (Ok n) (Numbers.fails_at k) = Numbers.fails_at k
+and_read (Err e) ns = Numbers.fails_at e.0
 
 -- so many numbers, the first of which is field k of the line: each is to be there and a number, and nothing is to come after the last, "one too many the next number"
 unfoldable pub wanted : ℕ → ℕ → List (List ℕ) → Numbers
@@ -150,16 +154,16 @@ numbers_of (Call.Trace n) = n.0 ∷ []
 -- ---- reading
 -- the call of a form that these numbers make; a field that does not read is told as it is: "everything above it passes that on"
 unfoldable pub formed : Form → Numbers → Line
-formed f (Numbers.all_read ns) = Line.Reads (f.call ns)
-formed f (Numbers.fails_at k) = Line.Malformed k
+formed f (Numbers.all_read ns) = Ok (f.call ns)
+formed f (Numbers.fails_at k) = failing k
 
 -- "the word is field 0": the form that has it says how many numbers are wanted, from field 1 on
 unfoldable pub read_as : List Form → List ℕ → List (List ℕ) → Line
-read_as [] word fs = Line.Malformed 0
+read_as [] word fs = failing 0
 read_as (g ∷ gs) word fs = cond (same g.word word) (formed g (wanted 1 g.count fs)) (read_as gs word fs)
 
 unfoldable pub read_fields : List (List ℕ) → Line
-read_fields [] = Line.Malformed 0
+read_fields [] = failing 0
 read_fields (word ∷ fs) = read_as forms word fs
 
 -- a whole line, however long
@@ -168,8 +172,8 @@ read_whole s = read_fields (fields s)
 
 -- "An over-long or unfinished line gives the first field that does not read, or, if all read, their count with the word."
 unfoldable pub unread : Line → Line
-unread (Line.Reads c) = Line.Malformed (length (numbers_of c) + 1)
-unread (Line.Malformed k) = Line.Malformed k
+unread (Ok c) = failing (length (numbers_of c) + 1)
+unread (Err e) = Err e
 
 -- a line "has at most 120 bytes"
 unfoldable pub read_line : List ℕ → Line

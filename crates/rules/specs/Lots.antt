@@ -1,8 +1,9 @@
 -- Document 01, "Tracing a payment": lots, replay and trace. The lots of all members and assets stand in one list; a member's line for an asset is those of its lots, in order.
-use Rattle.std.specs.Prelude.{ℕ, ◌-◌, Bool, ◌&&◌, cond, List, [], ◌∷◌, ◌++◌, map, leb, eqb}
-use Rattle.rules.specs.Types.{Nonce, Record, Lot}
+use Rattle.std.specs.Prelude.{Ok, Err, ℕ, ◌-◌, Bool, ◌&&◌, cond, List, [], ◌∷◌, ◌++◌, map, leb, eqb}
+use Rattle.rules.specs.Types.{Nonce, Record, Lot, Kind}
+use Rattle.rules.specs.Kinds.{AnyKind}
 use Rattle.rules.specs.Lists.{those}
-use Rattle.rules.specs.History.{Kind, kind_of, is_withdrawal}
+use Rattle.rules.specs.History.{kind_of, is_withdrawal}
 
 -- a row of zeros: what a cleared table holds, and what stands past the end of one
 abbrev pub no_lot : Lot
@@ -53,12 +54,12 @@ abbrev pub lot_of : Record → Lot
 lot_of r = record { member = r.first; asset = r.asset; number = record { 0 = r.second }; amount = r.amount }
 
 -- what a record does to the lots: a claim puts one at the end; of a transfer "the pieces join the receiver's line in the order taken"; a withdrawal's leave
-unfoldable pub lots_as : Kind → List Lot → Record → List Lot
-lots_as Kind.claim ls r = ls ++ (lot_of r ∷ [])
-lots_as Kind.transfer ls r = left_by r ls ++ map (of_member r.second) (taken_by r ls)
-lots_as Kind.withdrawal ls r = left_by r ls
-lots_as Kind.grant ls r = ls
-lots_as Kind.other ls r = ls
+unfoldable pub lots_as : AnyKind → List Lot → Record → List Lot
+lots_as (Ok Kind.Claim) ls r = ls ++ (lot_of r ∷ [])
+lots_as (Ok Kind.Transfer) ls r = left_by r ls ++ map (of_member r.second) (taken_by r ls)
+lots_as (Ok Kind.Withdrawal) ls r = left_by r ls
+lots_as (Ok Kind.Grant) ls r = ls
+lots_as (Err e) ls r = ls
 
 abbrev pub lots_after : List Lot → Record → List Lot
 lots_after ls r = lots_as (kind_of r) ls r

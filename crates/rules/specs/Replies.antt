@@ -1,6 +1,6 @@
 -- Document 01, "Reply numbers", and document 02, "Say which field": the table, what each answer is told as, and which of several refusals is given.
-use Rattle.std.specs.Prelude.{ℕ, zero, suc, min, Bool, cond, List, [], ◌∷◌}
-use Rattle.rules.specs.Types.{Refusal, Answer, Origin}
+use Rattle.std.specs.Prelude.{ℕ, zero, suc, min, Bool, cond, List, [], ◌∷◌, Result, Ok, Err}
+use Rattle.rules.specs.Types.{Refusal, Done, Answer}
 
 -- a reply: its number, and the values that come after it
 pub record Reply : Type 0 where
@@ -40,15 +40,23 @@ number_of r = (told_refusal r).number
 
 -- every answer's number and values: a send gives nonce, asset, amount, payee; a trace gives the piece count (its pieces lie in the table lent for them)
 unfoldable pub told : Answer → Reply
-told Answer.Done = plain 0
-told (Answer.Sent p) = record { number = 0; values = p.nonce.0 ∷ p.asset ∷ p.amount ∷ p.payee ∷ [] }
-told (Answer.Traced n) = record { number = 0; values = n ∷ [] }
-told (Answer.Refused r) = told_refusal r
+told (Ok Done.Plain) = plain 0
+told (Ok (Done.Sent p)) = record { number = 0; values = p.nonce.0 ∷ p.asset ∷ p.amount ∷ p.payee ∷ [] }
+told (Ok (Done.Traced n)) = record { number = 0; values = n ∷ [] }
+told (Err r) = told_refusal r
+
+-- what a call of the library answers: a send gives a payment, a trace a count, the others nothing beside the number
+abbrev pub answered : {A : Type 0} → (A → Done) → Result A Refusal → Answer
+answered gives (Ok x) = Ok (gives x)
+answered gives (Err r) = Err r
+
+abbrev pub plainly : Result (Unit {0}) Refusal → Answer
+plainly = answered (λ x. Done.Plain)
 
 -- and those of the question for a provenance
-unfoldable pub told_origin : Origin → Reply
-told_origin (Origin.Amount n) = record { number = 0; values = n ∷ [] }
-told_origin (Origin.Refused r) = told_refusal r
+unfoldable pub told_origin : Result ℕ Refusal → Reply
+told_origin (Ok n) = record { number = 0; values = n ∷ [] }
+told_origin (Err r) = told_refusal r
 
 -- an entry of a call's table of refusals: the number, and whether it applies
 abbrev pub refuse : Refusal → Bool → ℕ × Bool

@@ -1,6 +1,6 @@
 -- Documents 01 and 02, the book runner: from all the bytes read to all the bytes written.
-use Rattle.std.specs.Prelude.{ℕ, ◌+◌, Bool, true, false, cond, List, [], ◌∷◌, ◌++◌, eqb, take}
-use Rattle.rules.specs.Types.{Lot, Line, Refusal, Answer, Tally}
+use Rattle.std.specs.Prelude.{Ok, Err, ℕ, ◌+◌, Bool, true, false, cond, List, [], ◌∷◌, ◌++◌, eqb, take}
+use Rattle.rules.specs.Types.{Lot, Line, Refusal, Tally}
 use Rattle.rules.specs.Limits.{most_lines}
 use Rattle.rules.specs.Lists.{joined, bytes}
 use Rattle.rules.specs.State.{Book, empty_book}
@@ -33,8 +33,8 @@ read_input l = cond l.finished (read_line l.text) (unread (read_whole l.text))
 
 -- 1 Malformed, with the field that the line tells: it is none of the forms, and the book is as it was
 unfoldable pub answer_line : Book → Line → Outcome
-answer_line b (Line.Reads c) = answer b c
-answer_line b (Line.Malformed k) = record { reply = told (Answer.Refused (Refusal.Malformed k)); pieces = []; book = b }
+answer_line b (Ok c) = answer b c
+answer_line b (Err e) = record { reply = told (Err (Refusal.Malformed e.0)); pieces = []; book = b }
 
 -- "deposit number and amount for each piece"
 abbrev pub piece_values : Lot → List ℕ

@@ -1,5 +1,8 @@
-// The nine calls, each with its own numbers.
-use crate::rows::{Deposit, DepositNumber, Nonce};
+// The nine calls, each with its own numbers, and the history record that each writes: "Claim, transfer, withdraw and
+// grant each append one history record."
+ghost use Rattle.std.specs.Prelude.{◌≡◌};
+
+use crate::rows::{Deposit, DepositNumber, Kind, Nonce, Record};
 
 #[derive(Clone, Copy)]
 pub struct ClaimFields {
@@ -7,6 +10,22 @@ pub struct ClaimFields {
     pub number: DepositNumber,
     pub asset: u64,
     pub amount: u64,
+}
+
+impl From<ClaimFields> for Record {
+    ghost use Rattle.rules.specs.Effects.{claim_record};
+
+    ghost from_gives = { λ claim entry. entry ≡ claim_record claim };
+
+    fn from(claim: ClaimFields) -> Record {
+        Record {
+            kind: Kind::Claim as u64,
+            asset: claim.asset,
+            amount: claim.amount,
+            first: claim.member,
+            second: claim.number.0,
+        }
+    }
 }
 
 #[derive(Clone, Copy)]
@@ -17,6 +36,22 @@ pub struct TransferFields {
     pub amount: u64,
 }
 
+impl From<TransferFields> for Record {
+    ghost use Rattle.rules.specs.Effects.{transfer_record};
+
+    ghost from_gives = { λ transfer entry. entry ≡ transfer_record transfer };
+
+    fn from(transfer: TransferFields) -> Record {
+        Record {
+            kind: Kind::Transfer as u64,
+            asset: transfer.asset,
+            amount: transfer.amount,
+            first: transfer.from,
+            second: transfer.to,
+        }
+    }
+}
+
 #[derive(Clone, Copy)]
 pub struct WithdrawalFields {
     pub member: u64,
@@ -25,11 +60,43 @@ pub struct WithdrawalFields {
     pub payee: u64,
 }
 
+impl From<WithdrawalFields> for Record {
+    ghost use Rattle.rules.specs.Effects.{withdrawal_record};
+
+    ghost from_gives = { λ withdrawal entry. entry ≡ withdrawal_record withdrawal };
+
+    fn from(withdrawal: WithdrawalFields) -> Record {
+        Record {
+            kind: Kind::Withdrawal as u64,
+            asset: withdrawal.asset,
+            amount: withdrawal.amount,
+            first: withdrawal.member,
+            second: withdrawal.payee,
+        }
+    }
+}
+
 #[derive(Clone, Copy)]
 pub struct GrantFields {
     pub from: u64,
     pub to: u64,
     pub domain: u64,
+}
+
+impl From<GrantFields> for Record {
+    ghost use Rattle.rules.specs.Effects.{grant_record};
+
+    ghost from_gives = { λ grant entry. entry ≡ grant_record grant };
+
+    fn from(grant: GrantFields) -> Record {
+        Record {
+            kind: Kind::Grant as u64,
+            asset: grant.domain,
+            amount: 1,
+            first: grant.from,
+            second: grant.to,
+        }
+    }
 }
 
 #[derive(Clone, Copy)]
@@ -51,16 +118,6 @@ pub enum Call {
     Trace(Nonce),
 }
 
-// What reading one field gives: its number, or which field it is that does not read.
-#[derive(Clone, Copy)]
-pub enum Field {
-    Number(u64),
-    FailsAt(u64),
-}
-
-// What reading one line gives: one of the nine calls, or the field that it tells.
-#[derive(Clone, Copy)]
-pub enum Line {
-    Reads(Call),
-    Malformed(u64),
-}
+// Which field it is that does not read: the line is none of the nine calls.
+#[derive(Clone, Copy, PartialEq, Eq)]
+pub struct FailsAt(pub u64);

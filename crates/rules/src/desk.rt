@@ -15,7 +15,7 @@ pub struct Desk {
 }
 
 // The counters and the counts of a desk: a number that a desk keeps beside its lists stands here alone.
-#[derive(Clone, Copy)]
+#[derive(Clone, Copy, Default)]
 pub struct Counts {
     // The last deposit number accepted, and the next payment's nonce.
     pub last: DepositNumber,

@@ -3,6 +3,7 @@
 #![tactic(auto)]
 
 pub mod answers;
+pub mod book;
 pub mod calls;
 pub mod desk;
 pub mod limits;

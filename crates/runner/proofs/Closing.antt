@@ -1,39 +1,62 @@
 -- The end of the input: what is held of a last line is Malformed, and the tally comes last.
-use Prim.Native.Nat.{ℕ, zero, suc, ◌≤◌, ◌<◌}
-use mathlib.Core.Path.{◌≡◌, refl}
+use Rattle.std.proofs.Common.{Err}
+use Prim.Native.Nat.{ℕ, ◌+◌, ◌≤◌}
+use mathlib.Core.Path.{◌≡◌, refl, ap, ◌∙◌}
+use mathlib.Core.Bool.{Bool, true, false, cond}
 use mathlib.Core.List.{List, [], ◌∷◌}
 use native.Mathlib.Omega.{arith}
-use lib.ListN.{length, take}
-use borrow.Author.Tests.{lt-ltb, le-ltb}
-use Rattle.rules.specs.declared.calls.Line.{Line}
+use lib.Dec.{eqb}
+use lib.ListN.{length}
+use borrow.Author.Tests.{eqb-true, eqb-false}
+use Rattle.rules.specs.declared.calls.FailsAt.{FailsAt}
+use Rattle.rules.specs.declared.answers.Refusal.{Refusal}
 use Rattle.rules.specs.declared.answers.Tally.{Tally}
 use Rattle.rules.specs.Lines.{unread, read_whole}
-use Rattle.rules.specs.Limits.{most_held}
-use Rattle.rules.specs.Replies.{told, told_refusal}
-use Rattle.rules.specs.Transcript.{answer_line, tallied, end_text}
+use Rattle.rules.specs.Replies.{told}
+use Rattle.rules.specs.Transcript.{tallied, end_text}
 use Rattle.pages.specs.Writing.{Page, put}
+use Rattle.pages.proofs.PageLaws.{put_then, put-nothing, put_whole}
 use Rattle.replies.specs.Writing.{reply_line}
-use Rattle.pages.proofs.PageLaws.{put_then}
-use Rattle.replies.proofs.ReplyLaws.{reply-line}
-use Rattle.runner.specs.declared.running.Running.{Running}
-use Rattle.runner.specs.Machine.{outcome_for, unfinished, unfinished_text, at_end, closing}
-use Rattle.runner.specs.Running.{machine_of, malformed}
+use Rattle.runner.specs.Machine.{Machine, stopped, unfinished, unfinished_text, at_end, closing}
+use Rattle.runner.specs.Kept.{Ended, Closed}
+use Rattle.runner.proofs.Answering.{malformed_text, malformed_counted}
+use Rattle.runner.proofs.Room.{closing-fits}
 
-module _ (run : Running) (i o h hold : List ℕ) (p : Page) where
-  pub closed-stopped : (n : ℕ) → 100000 < run.line → {q : Page} → q ≡ put p (end_text run.tally) → q ≡ put p (closing (machine_of run i o h (take n hold)))
-  unfolding closing at_end
-  closed-stopped n s e = rw (lt-ltb 100000 run.line s) e
+either : {A : Type 0} (t : Bool) {x : A} → x ≡ cond t x x
+either true = refl
+either false = refl
 
-  pub closed-whole : (n : ℕ) → run.line ≤ 100000 → n ≡ 0 → {q : Page} → q ≡ put p (end_text run.tally) → q ≡ put p (closing (machine_of run i o h (take n hold)))
-  unfolding closing at_end unfinished unfinished_text
-  closed-whole n s z e = rw (z, le-ltb 100000 run.line s) e
+module _ (m : Machine) (p : Page) where
+  pub ended_stopped : stopped m ≡ true → Ended m p m.tally p
+  unfolding at_end
+  ended_stopped s = record { tally = rw s refl; page = rw s (put-nothing p) }
 
-pub closed-unfinished : (run : Running) (i o h hold : List ℕ) (p : Page) (n k : ℕ) → run.line ≤ 100000 → (n ≡ 0 → ⊥) → length hold ≡ most_held → Line.Malformed k ≡ unread (read_whole (take n hold))
-    → {q r : Page} (t : Tally) → q ≡ put p (reply_line run.line (told (malformed k))) → t ≡ tallied run.tally (told (malformed k)).number → r ≡ put q (end_text t)
-    → r ≡ put p (closing (machine_of run i o h (take n hold)))
-unfolding closing at_end unfinished unfinished_text answer_line told told_refusal
-closed-unfinished run i o h hold p zero k s z l m t e c f = absurd (z refl)
-closed-unfinished run i o h [] p (suc n) k s z l m t e c f = absurd (omega arith)
-closed-unfinished run i o h (x ∷ hold) p (suc n) k s z l m t e c f =
-    rw (le-ltb 100000 run.line s, ← m, reply-line run.line (outcome_for (machine_of run i o h (x ∷ take n hold)) (Line.Malformed k)) refl, ← c)
-    (put_then p (reply_line run.line (told (malformed k))) (end_text t) e f)
+  pub ended_whole : eqb (length m.held) 0 ≡ true → Ended m p m.tally p
+  unfolding at_end unfinished unfinished_text
+  ended_whole z = go m.held (eqb-true (length m.held) 0 z)
+    where
+      go : (held : List ℕ) → length held ≡ 0 → Ended (record { book = m.book; tally = m.tally; line = m.line; held = held }) p m.tally p
+      go [] e = record { tally = ap (λ (x : Machine). x.tally) (either (stopped m) {x = record { book = m.book; tally = m.tally; line = m.line; held = [] }}); page = put-nothing p ∙ ap (put p) (either (stopped m) {x = []}) }
+      go (b ∷ held) e = absurd (omega (arith, e))
+
+  pub ended_unfinished : (e : FailsAt) (t : Tally) (q : Page) → stopped m ≡ false → eqb (length m.held) 0 ≡ false → Err e ≡ unread (read_whole m.held) → q ≡ put p (reply_line m.line (told (Err (Refusal.Malformed e.0))))
+      → t ≡ tallied m.tally 1 → Ended m p t q
+  unfolding at_end unfinished unfinished_text
+  ended_unfinished e t q s z r f g = go m.held (λ h. eqb-false (length m.held) 0 z h) r
+    where
+      go : (held : List ℕ) → (length held ≡ 0 → ⊥) → Err e ≡ unread (read_whole held) → Ended (record { book = m.book; tally = m.tally; line = m.line; held = held }) p t q
+      go [] h k = absurd (h refl)
+      go (b ∷ held) h k =
+          record {
+            tally = rw (s, ← k, malformed_counted m.book e) g;
+            page = rw (s, ← k, malformed_text m.book m.line e) f;
+          }
+
+  -- behind it comes the end
+  pub closed : (t : Tally) (q r : Page) → p.upto + 45000 ≤ length p.bytes → Ended m p t q → r ≡ put q (end_text t) → Closed m p r
+  unfolding closing
+  closed t q r h e f =
+      let g : r ≡ put p (closing m) = put_then p (cond (stopped m) [] (unfinished_text m.held m)) (end_text (at_end m).tally) e.page (rw (← e.tally) f) in
+      let c = closing-fits m in
+      let (at, text, long) = put_whole p.bytes p.upto (closing m) r.bytes r.upto g (omega arith) in
+      record { page = g; text = text; within = omega (arith, at, long, h, c) }

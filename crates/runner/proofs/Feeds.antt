@@ -1,82 +1,94 @@
--- One byte fed: what is held of a line, and the machine and the text after it; and bytes after bytes.
-use Prim.Native.Nat.{ℕ, ◌+◌, ◌-◌, ◌≤◌, ◌<◌}
-use mathlib.Core.Path.{◌≡◌, refl}
-use mathlib.Core.Bool.{true}
-use mathlib.Core.List.{List, [], ◌∷◌, append-nil}
-use native.Mathlib.Numerals.{add-one}
+-- Where in a read the next line feed stands.
+use Rattle.std.specs.Option.{unwrap_or}
+use Rattle.std.specs.List.{fold, position, position_or_len}
+use Rattle.std.proofs.Common.{Some, None}
+use Prim.Native.Nat.{ℕ, suc, ◌+◌, ◌-◌, ◌≤◌}
+use mathlib.Core.Path.{◌≡◌, refl, sym, ap, ◌∙◌}
+use mathlib.Core.Bool.{Bool, true, false, not, ◌&&◌, ◌||◌, cond}
+use mathlib.Core.List.{List, [], ◌∷◌, ◌++◌}
 use native.Mathlib.Omega.{arith}
-use lib.Dec.{leb}
-use lib.ListN.{length, get_or, take, set}
-use lib.Seq.{length-take-le, take-suc, take-suc-set}
-use borrow.Author.Tests.{lt-ltb, le-ltb, eq-eqb}
-use Rattle.rules.specs.declared.calls.Line.{Line}
-use Rattle.rules.specs.Limits.{most_held}
-use Rattle.rules.specs.Lines.{read_line}
-use Rattle.rules.specs.Transcript.{reply_text}
-use Rattle.pages.specs.Writing.{Page, page, put}
-use Rattle.pages.proofs.PageLaws.{put_then, put-nothing}
-use Rattle.runner.specs.declared.running.Running.{Running}
-use Rattle.runner.specs.Machine.{Machine, held_with, outcome_for, after_line, fed, written, feeds, writes}
-use Rattle.runner.specs.Running.{machine_of}
-use Rattle.runner.proofs.Cuts.{feeds-append, writes-append}
-use Rattle.runner.proofs.Room.{fits_more}
+use lib.Dec.{ltb, eqb}
+use lib.ListN.{length, take, drop, length-drop, length-append}
+use lib.Seq.{take-add, take_all, take_at, drop_at, drop-drop, get_or-drop}
+use borrow.Author.Tests.{eqb-true, ltb-false}
+use Rattle.rules.specs.Lists.{all}
+use Rattle.rules.specs.Lines.{line_feed}
+use Rattle.rules.proofs.Digits.{all_append}
+use Rattle.runner.specs.Feeding.{no_feed, NextFeed}
 
--- ---- one byte held
-pub hold-more : (t : List ℕ) (n b : ℕ) → n < most_held → length t ≡ most_held → take (n + 1) (set t n b) ≡ held_with (take n t) b
-unfolding held_with
-hold-more t n b h l =
-    let f : n < length t = omega arith in
-    let k : length (take n t) ≡ n = length-take-le n t (omega arith) in
-    rw (add-one n, take-suc-set t n b f, k, lt-ltb n most_held h)
+-- ---- byte by byte: the place of the first line feed, and where there is none the length
+feed_place : (s : List ℕ) → NextFeed (position_or_len (λ b. eqb b line_feed) s) s
+unfolding all
+feed_place [] = record { within = omega arith; none = refl; feed = λ h. absurd (omega arith) }
+feed_place (b ∷ s) = go (eqb b line_feed) refl (position_or_len (λ x. eqb x line_feed) s) (feed_place s)
+  where
+    go : (t : Bool) → eqb b line_feed ≡ t → (n : ℕ) → NextFeed n s → NextFeed (cond (not t) (1 + n) 0) (b ∷ s)
+    go true e n f = record { within = omega arith; none = refl; feed = λ h. eqb-true b line_feed e }
+    go false e n f =
+        let next : 1 + n ≡ suc n = omega arith in
+        rw next (record { within = let w = f.within in omega arith; none = rw e f.none; feed = λ h. f.feed (omega arith) })
 
-pub hold-full : (t : List ℕ) (n b : ℕ) → most_held ≤ n → n ≤ most_held → length t ≡ most_held → take n t ≡ held_with (take n t) b
-unfolding held_with
-hold-full t n b h g l =
-    let k : length (take n t) ≡ n = length-take-le n t (omega arith) in
-    rw (k, le-ltb n most_held h)
+pub first_found : (s : List ℕ) → NextFeed (unwrap_or (position (λ b. eqb b line_feed) s) (length s)) s
+first_found s = go (position_or_len (λ b. eqb b line_feed) s) (feed_place s)
+  where
+    go : (n : ℕ) → NextFeed n s → NextFeed (unwrap_or (cond (ltb n (length s)) (Some n) None) (length s)) s
+    go n f = by (ltb n (length s)) refl
+      where
+        by : (t : Bool) → ltb n (length s) ≡ t → NextFeed (unwrap_or (cond t (Some n) None) (length s)) s
+        by true e = f
+        by false e =
+            let w = f.within in
+            let l : length s ≤ n = ltb-false n (length s) e in
+            let whole : n ≡ length s = omega arith in
+            rw (← whole) f
 
--- ---- one byte fed
-module _ (run : Running) (i o h held : List ℕ) (b : ℕ) where
-  abbrev pub now_at : Machine
-  now_at = machine_of run i o h held
+-- ---- past bytes without one
+-- a part from a place on, as the code takes it
+pub from_on : (s : List ℕ) (i : ℕ) → take (length s - i) (drop i s) ≡ drop i s
+from_on s i = take_all (length s - i) (drop i s) (rw (length-drop i s) (omega arith))
 
-  -- a line feed
-  pub line-fed : run.line ≤ 100000 → b ≡ 10 → (l : Line) → l ≡ read_line held → (m : Machine) → m ≡ after_line (machine_of run i o h []) (outcome_for (machine_of run i o h []) l) → m ≡ fed now_at b
-  unfolding fed
-  line-fed s n l r m e = rw (le-ltb 100000 run.line s, eq-eqb b 10 n, ← r) e
+pub feed_further : (s : List ℕ) (i n : ℕ) → i ≤ length s → all no_feed (take i s) ≡ true → NextFeed n (take (length s - i) (drop i s)) → NextFeed (i + n) s
+feed_further s i n h e f₀ =
+    let f = rw (from_on s i) at f₀ in
+    let l : length (drop i s) ≡ length s - i = length-drop i s in
+    record {
+      within = let w = f.within in omega arith;
+      none = rw (take-add i n s, all_append no_feed (take i s) (take n (drop i s)), e) f.none;
+      feed = λ more. sym (get_or-drop i s n 0) ∙ f.feed (omega arith);
+    }
 
-  pub line-written : run.line ≤ 100000 → b ≡ 10 → (l : Line) → l ≡ read_line held → (p : Page) {q : Page} → q ≡ put p (reply_text run.line (outcome_for (machine_of run i o h []) l)) → q ≡ put p (written now_at b)
-  unfolding written
-  line-written s n l r p e = rw (le-ltb 100000 run.line s, eq-eqb b 10 n, ← r) e
+-- block after block, up to a place in the read: what is left of it to be looked at
+pub record Passed (s : List ℕ) (i : ℕ) (left : List ℕ) : Type 0 where
+  pub within : i ≤ length s
+  pub none : all no_feed (take i s) ≡ true
+  pub rest : left ≡ drop i s
 
--- ---- byte after byte of a read
-module _ (m : Machine) (chunk : List ℕ) (k : ℕ) (here : k < length chunk) {m' : Machine} (e : m' ≡ feeds m (take k chunk)) where
-  pub feed-more : {m'' : Machine} → m'' ≡ fed m' (get_or chunk k 0) → m'' ≡ feeds m (take (k + 1) chunk)
-  unfolding feeds
-  feed-more f = rw (add-one k, take-suc chunk k 0 here, feeds-append m (take k chunk) (get_or chunk k 0 ∷ []), ← e) f
+pub none_passed : (s rest : List ℕ) → rest ≡ s → Passed s 0 rest
+unfolding all
+none_passed s rest e = record { within = omega arith; none = refl; rest = e }
 
-  pub write_more : (p : Page) {q r : Page} → q ≡ put p (writes m (take k chunk)) → r ≡ put q (written m' (get_or chunk k 0)) → r ≡ put p (writes m (take (k + 1) chunk))
-  unfolding writes
-  write_more p f g =
-      rw (add-one k, take-suc chunk k 0 here, writes-append m (take k chunk) (get_or chunk k 0 ∷ []), ← e, append-nil)
-      (put_then p (writes m (take k chunk)) (written m' (get_or chunk k 0)) f g)
+pub block_passed : (s : List ℕ) (i n : ℕ) (block rest rest' : List ℕ) → Passed s i rest → rest ≡ block ++ rest' → length block ≡ n → all no_feed block ≡ true → Passed s (i + n) rest'
+block_passed s i n block rest rest' p e l f =
+    let q : drop i s ≡ block ++ rest' = sym p.rest ∙ e in
+    let t : take n (drop i s) ≡ block = rw q (take_at block rest' n l) in
+    let d = length-drop i s in
+    let m : length (drop i s) ≡ length block + length rest' = rw q (length-append block rest') in
+    record {
+      within = omega (arith, d, m, l, p.within);
+      none = rw (take-add i n s, all_append no_feed (take i s) (take n (drop i s)), p.none, t) f;
+      rest = sym (drop_at block rest' n l) ∙ ap (drop n) (sym q) ∙ drop-drop n i s;
+    }
 
-  -- there was room for it, so it is written whole
-  pub room-more : (o o₀ : List ℕ) (at at₀ : ℕ) → page o at ≡ put (page o₀ at₀) (writes m (take k chunk)) → at₀ + length (writes m (take k chunk)) ≤ length o₀
-      → leb 45000 (length o - at) ≡ true → at₀ + length (writes m (take (k + 1) chunk)) ≤ length o₀
-  unfolding writes
-  room-more o o₀ at at₀ f h r =
-      rw (add-one k, take-suc chunk k 0 here, writes-append m (take k chunk) (get_or chunk k 0 ∷ []), ← e, append-nil)
-      (fits_more m' (get_or chunk k 0) o o₀ at at₀ (writes m (take k chunk)) f h r)
+-- ---- all the bytes of a block looked at
+abbrev pub looked : Bool → ℕ → Bool
+looked found b = found || eqb b line_feed
 
-pub none-fed : (m : Machine) (chunk : List ℕ) → m ≡ feeds m (take 0 chunk)
-unfolding feeds
-none-fed m chunk = refl
-
-pub none_written : (m : Machine) (chunk : List ℕ) (p : Page) → p ≡ put p (writes m (take 0 chunk))
-unfolding writes
-none_written m chunk p = put-nothing p
-
-pub none-fits : (m : Machine) (chunk o : List ℕ) (at : ℕ) → at ≤ length o → at + length (writes m (take 0 chunk)) ≤ length o
-unfolding writes
-none-fits m chunk o at h = omega arith
+pub looked_all : (found : Bool) (s : List ℕ) → not (fold looked found s) ≡ not found && all no_feed s
+unfolding all
+looked_all true [] = refl
+looked_all false [] = refl
+looked_all found (b ∷ s) = looked_all (looked found b) s ∙ last found (eqb b line_feed)
+  where
+    last : (a b : Bool) → not (a || b) && all no_feed s ≡ not a && (not b && all no_feed s)
+    last true b = refl
+    last false b = refl

@@ -1,8 +1,8 @@
-pub mod Answering
-pub mod Closing
+mod Answering
+mod Closing
 pub mod Cuts
-pub mod Feeds
+mod Feeds
+mod Held
 pub mod Once
 pub mod Parts
-mod Whole
 pub mod Room

@@ -1,19 +1,20 @@
 -- No reply is too long for the room that is kept for it, and where there is room a text is written whole.
-use Prim.Native.Nat.{ℕ, zero, suc, ◌+◌, ◌*◌, ◌/◌, ◌%◌, ◌-◌, ◌≤◌}
+use Rattle.std.specs.Prelude.{Ok, Err}
+use Prim.Native.Nat.{ℕ, zero, suc, ◌+◌, ◌*◌, ◌/◌, ◌%◌, ◌≤◌}
 use mathlib.Core.Path.{◌≡◌, refl}
 use mathlib.Core.Bool.{Bool, true, false, cond}
 use mathlib.Core.List.{List, [], ◌∷◌, ◌++◌}
 use native.Mathlib.Omega.{arith}
-use lib.Dec.{leb, ltb, eqb}
-use lib.ListN.{length, take, length-append}
-use borrow.Author.Tests.{leb-true}
+use lib.Dec.{ltb}
+use lib.ListN.{length, length-append}
 use Rattle.rules.specs.declared.rows.Lot.{Lot}
 use Rattle.rules.proofs.Told.{Telling, telling}
 use Rattle.rules.specs.Lists.{joined, bytes}
-use Rattle.rules.specs.Lines.{line_feed, tab, spelled, decimal, tabbed, read_line, unread, read_whole}
+use Rattle.rules.specs.Lines.{line_feed, tab, spelled, decimal, tabbed, unread, read_whole}
 use Rattle.rules.specs.declared.calls.Call.{Call}
-use Rattle.rules.specs.declared.calls.Line.{Line}
-use Rattle.rules.specs.declared.answers.Answer.{Answer}
+use Rattle.rules.specs.Types.{Line}
+use Rattle.rules.specs.Types.{Answer}
+use Rattle.rules.specs.declared.answers.Done.{Done}
 use Rattle.rules.specs.declared.answers.Refusal.{Refusal}
 use Rattle.rules.specs.State.{Book, view, history_of}
 use Rattle.rules.specs.Replies.{told, if_done, told_refusal}
@@ -24,12 +25,7 @@ use Rattle.lots.proofs.LotCounts.{pieces-count}
 use Rattle.lots.proofs.TraceJoin.{records_fit}
 use Rattle.rules.specs.declared.answers.Tally.{Tally}
 use Rattle.rules.specs.Transcript.{piece_values, reply_text, answer_line, end_text}
-use Rattle.runner.specs.Machine.{Machine, stopped, outcome_for, written, unfinished_text, at_end, closing}
-use Rattle.pages.specs.Writing.{page, put}
-use Rattle.pages.proofs.PageLaws.{put_whole}
-use Rattle.runner.specs.declared.feed.Feeding.{Feeding}
-use Rattle.runner.specs.Feeding.{fed_machine, Closes, EndsWith}
-use Rattle.runner.specs.Kept.{Closed}
+use Rattle.runner.specs.Machine.{Machine, stopped, unfinished_text, at_end, closing}
 
 -- a number has at most 20 digits
 one_more : (t : Bool) (k a b : ℕ) (ds : List ℕ) → length ds ≤ k → length (cond t (a ∷ []) (ds ++ (b ∷ []))) ≤ suc k
@@ -75,10 +71,10 @@ reply-length n o v p = line-length n o.reply.number o.reply.values o.pieces v p
 -- ---- what a line is answered
 values-few : (a : Answer) → length (told a).values ≤ 4
 unfolding told
-values-few Answer.Done = omega arith
-values-few (Answer.Sent p) = omega arith
-values-few (Answer.Traced n) = omega arith
-values-few (Answer.Refused r) = go (telling r)
+values-few (Ok Done.Plain) = omega arith
+values-few (Ok (Done.Sent p)) = omega arith
+values-few (Ok (Done.Traced n)) = omega arith
+values-few (Err r) = go (telling r)
   where
     go : {x : Refusal} → Telling x → length (told_refusal x).values ≤ 4
     go (Telling.field k) = unfold told_refusal in omega arith
@@ -107,24 +103,14 @@ done-few : (n : ℕ) (ps : List Lot) → (n ≡ 0 → length ps ≤ 1024) → le
 done-few zero ps h = h refl
 done-few (suc n) ps h = omega arith
 
-line-fits : (n : ℕ) (b : Book) (l : Line) → length (reply_text n (answer_line b l)) ≤ 43134
+pub line_fits : (n : ℕ) (b : Book) (l : Line) → length (reply_text n (answer_line b l)) ≤ 43134
 unfolding answer_line answer
-line-fits n b (Line.Reads c) =
-    reply-length n (answer b c) (reply-few (reply_number b c) (done_answer (view b) c))
+line_fits n b (Ok c) =
+    reply-length n (answer b c) (reply-few (reply_number b c) (Ok (done_answer (view b) c)))
     (done-few (reply_number b c) (pieces_of (view b) c) (λ e. pieces-few b c (by_number b c e)))
-line-fits n b (Line.Malformed k) = reply-length n (answer_line b (Line.Malformed k)) (values-few (Answer.Refused (Refusal.Malformed k))) (omega arith)
+line_fits n b (Err e) = reply-length n (answer_line b (Err e)) (values-few (Err (Refusal.Malformed e.0))) (omega arith)
 
--- no byte makes the machine write more
-pub written-fits : (m : Machine) (b : ℕ) → length (written m b) ≤ 43134
-unfolding written
-written-fits m b = go (stopped m) (eqb b line_feed)
-  where
-    go : (t u : Bool) → length (cond t [] (cond u (reply_text m.line (outcome_for m (read_line m.held))) [])) ≤ 43134
-    go true u = omega arith
-    go false true = line-fits m.line m.book (read_line m.held)
-    go false false = omega arith
-
--- nor does the end of the input
+-- what is written at the end of the input
 end_length : (t : Tally) → length (end_text t) ≤ 46
 unfolding end_text bytes
 end_length t =
@@ -135,7 +121,7 @@ end_length t =
 unfinished-fits : (held : List ℕ) (m : Machine) → length (unfinished_text held m) ≤ 43134
 unfolding unfinished_text
 unfinished-fits [] m = omega arith
-unfinished-fits (b ∷ bs) m = line-fits m.line m.book (unread (read_whole (b ∷ bs)))
+unfinished-fits (b ∷ bs) m = line_fits m.line m.book (unread (read_whole (b ∷ bs)))
 
 pub closing-fits : (m : Machine) → length (closing m) ≤ 45000
 unfolding closing
@@ -148,25 +134,3 @@ closing-fits m = go (stopped m)
         let u = unfinished-fits m.held m in
         let l = length-append (unfinished_text m.held m) (end_text (at_end m).tally) in
         omega arith
-
--- ---- a page on which all is written that was to be
-pub whole : (o o₀ : List ℕ) (at at₀ : ℕ) (text : List ℕ) → page o at ≡ put (page o₀ at₀) text → at₀ + length text ≤ length o₀
-    → (take at o ≡ take at₀ o₀ ++ text) × (at ≤ length o)
-whole o o₀ at at₀ text e h = let w = put_whole o₀ at₀ text o at e h in (w.1, omega (arith, w.0, w.2, h))
-
-pub fits_more : (m : Machine) (b : ℕ) (o o₀ : List ℕ) (at at₀ : ℕ) (text : List ℕ) → page o at ≡ put (page o₀ at₀) text → at₀ + length text ≤ length o₀
-    → leb 45000 (length o - at) ≡ true → at₀ + length (text ++ written m b) ≤ length o₀
-fits_more m b o o₀ at at₀ text e h r =
-    let p = put_whole o₀ at₀ text o at e h in
-    let w = written-fits m b in
-    let l = length-append text (written m b) in
-    let q = leb-true 45000 (length o - at) r in
-    omega (arith, p.0, p.2, w, l, q, h)
-
--- at the end of the input there is room for what comes last, whatever the tables hold
-pub closed_all : (f : Feeding) (hold o₀ o : List ℕ) (at : ℕ) → Closes f hold (page o₀ f.at) (page o at) → f.at + 45000 ≤ length o₀ → Closed f hold o₀ o at
-unfolding Closes EndsWith
-closed_all f hold o₀ o at e h = record { page = e; text = λ x y z. (one x y z).0; within = (one [] [] []).1 }
-  where
-    one : (x y z : List ℕ) → (take at o ≡ take f.at o₀ ++ closing (fed_machine f x y z hold)) × (at ≤ length o)
-    one x y z = whole o o₀ at f.at (closing (fed_machine f x y z hold)) (e x y z) (let c = closing-fits (fed_machine f x y z hold) in omega arith)

@@ -1,4 +1,3 @@
+pub mod Machine
 pub mod Feeding
 pub mod Kept
-pub mod Machine
-pub mod Running

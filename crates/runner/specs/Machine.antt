@@ -1,6 +1,6 @@
 -- The book runner as a machine that is fed one byte at a time, so that it does not matter how the input is cut into reads.
-use Rattle.std.specs.Prelude.{ℕ, ◌+◌, Bool, cond, List, [], ◌∷◌, ◌++◌, ltb, eqb, length}
-use Rattle.rules.specs.declared.calls.Line.{Line}
+use Rattle.std.specs.Prelude.{ℕ, ◌+◌, ◌≤◌, ◌<◌, Bool, cond, List, [], ◌∷◌, ◌++◌, ltb, eqb, length}
+use Rattle.rules.specs.Types.{Line}
 use Rattle.rules.specs.declared.answers.Tally.{Tally}
 use Rattle.rules.specs.Limits.{most_held, most_lines}
 use Rattle.rules.specs.State.{Book, empty_book}
@@ -14,6 +14,12 @@ pub record Machine : Type 0 where
   pub tally : Tally
   pub line : ℕ
   pub held : List ℕ
+
+-- no count has passed the lines that were answered, so none can wrap
+pub record Counted (tally : Tally) (line : ℕ) : Type 0 where
+  pub done : tally.done < line
+  pub other : tally.other < line
+  pub few : line ≤ 100001
 
 unfoldable pub start : Machine
 start = record { book = empty_book; tally = record { done = 0; other = 0 }; line = 1; held = [] }

@@ -1,249 +1,142 @@
 // The input line after line, however it is cut into reads.
-ghost use Rattle.std.specs.Prelude.{◌+◌, ◌-◌, ◌≤◌, leb, ◌≡◌, length, take, not, true};
-ghost use Rattle.rules.specs.Limits.{most_held};
-ghost use Rattle.rules.specs.Lists.{all};
+ghost use Rattle.std.specs.Prelude.{◌≡◌, ◌+◌, ◌≤◌, ◌<◌, length, Ok, Err};
 ghost use Rattle.rules.specs.Lines.{read_line};
-ghost use Rattle.runner.specs.Machine.{held_with, holds};
-ghost use Rattle.runner.specs.Feeding.{feeding_of, Ready, no_feed, NextFeed};
-ghost use Rattle.runner.specs.Kept.{kept, RunSome, Closed};
+ghost use Rattle.runner.specs.Machine.{holds, after_line, outcome_for};
+ghost use Rattle.runner.specs.Feeding.{FeedsLine};
+ghost use Rattle.runner.specs.Kept.{kept, RunSome, Ended, Closed};
+ghost use Rattle.rules.specs.Replies.{told};
+ghost use Rattle.rules.specs.Transcript.{answer_line, reply_text, tallied};
+ghost use Rattle.replies.specs.Writing.{reply_line};
+ghost use Rattle.pages.specs.Writing.{put};
 
-use crate::running::{Heard, Running, Written, answer_call, answer_said, hear};
+use crate::find::feed_at;
+use crate::hold::Held;
+use crate::session::Session;
 use lines::read::{read_line, unread_field};
-use replies::put_end;
-use rules::answers::{Answer, Refusal};
-use rules::calls::Line;
-use rules::desk::Desk;
-use rules::limits::MOST_HELD;
+use pages::Page;
+use replies::{put_end, put_reply_line};
+use rules::answers::{Refusal, Tally};
+use rules::book::Book;
+use rules::calls::{Call, FailsAt};
+use steps::step::counted_step;
+use steps::tally::raise;
 
-// What is kept between reads: what is kept between lines, how many bytes of a line are held, and the
-// place up to which the output is written.
-#[derive(Clone, Copy)]
-pub struct Feeding {
-    pub running: Running,
-    pub held: usize,
-    pub at: usize,
-}
+// The longest reply: at most six numbers and 1,024 pieces of 42 bytes are fewer than so many bytes.
+pub const LONGEST_REPLY: usize = 45_000;
 
-// One byte more of a line. Of a line over 120 bytes no more than 121 are held: they tell the field of the
-// whole line.
-fn hold_byte(hold: &mut [u8], held: usize, b: u8) -> usize
-    requires held_le_most_held { held ≤ most_held }
-    requires hold_len { length hold.old ≡ most_held }
-    ensures hold_after { take result hold.new ≡ held_with (take held hold.old) b }
-    ensures upper_bound { result ≤ most_held }
+// Feeds a read, line after line, while the output has room for the longest reply. Answers how far it came: what stands
+// on the page is to be given out, and the rest of the read fed with the page begun anew.
+pub fn run_some(session: &mut Session, page: &mut Page, chunk: &[u8]) -> usize
+    requires { page.old.upto ≤ length page.old.bytes }
+    ensures { RunSome (kept session.old page.old) chunk.now result (kept session.new page.new) }
 {
-    if held < MOST_HELD {
-        hold[held] = b;
-        return held + 1;
+    // A `while`: how far a turn goes is told by its line, and whether there is another by the page.
+    let mut next: usize = 0;
+    while next < chunk.len() && LONGEST_REPLY <= page.room() {
+        next += feed_line(session, page, &chunk[next..]);
     }
-    held
+    next
 }
 
-// How far a read was fed.
-#[derive(Clone, Copy)]
-pub struct Fed {
-    pub feeding: Feeding,
-    pub next: usize,
-}
-
-// Holds the bytes of a part of a line, one after the other.
-fn hold_part(hold: &mut [u8], held: usize, part: &[u8]) -> usize
-    requires held_le_most_held { held ≤ most_held }
-    requires hold_len { length hold.old ≡ most_held }
-    ensures hold_after { take result hold.new ≡ holds (take held hold.old) part.now }
-    ensures upper_bound { result ≤ most_held }
+// Feeds what is left of a read up to its first line feed, or all of it where no line ends. After 100,000 lines the rest
+// of a read is passed over. How many bytes that is.
+fn feed_line(session: &mut Session, page: &mut Page, rest: &[u8]) -> usize
+    requires { 0 < length rest.now }
+    ensures { FeedsLine session.old page.old rest.now result session.new page.new }
 {
-    let mut n = held;
-    let mut k: usize = 0;
-    while k < part.len() {
-        n = hold_byte(hold, n, part[k]);
-        k += 1;
+    if session.is_stopped() {
+        return rest.len();
     }
-    n
-}
-
-// Where the next line feed stands, or the end of the read.
-fn feed_at(s: &[u8]) -> usize
-    ensures { NextFeed result s.now }
-{
-    let from = blocks_without(s);
-    from + first_feed(&s[from..])
-}
-
-// The same, byte by byte.
-fn first_feed(s: &[u8]) -> usize
-    ensures { NextFeed result s.now }
-{
-    let mut i: usize = 0;
-    while i < s.len() {
-        if s[i] == 10 {
-            return i;
-        }
-        i += 1;
+    let end = feed_at(rest);
+    if end == rest.len() {
+        session.hold(rest);
+        return end;
     }
-    i
+    run_line(session, page, &rest[..end]);
+    end + 1
 }
 
-// Of a long line the bytes are tested 32 at a time: up to here there is no line feed.
-fn blocks_without(s: &[u8]) -> usize
-    ensures upper_bound { result ≤ length s.now }
-    ensures s_value { all no_feed (take result s.now) ≡ true }
+// Answers the line whose last part this is.
+fn run_line(session: &mut Session, page: &mut Page, part: &[u8])
+    requires { session.old.line ≤ 100000 }
+    ensures machine { session.new ≡ after_line session.old (outcome_for session.old (read_line (holds session.old.held part.now))) }
+    ensures text { page.new ≡ put page.old (reply_text session.old.line (outcome_for session.old (read_line (holds session.old.held part.now)))) }
 {
-    let mut i: usize = 0;
-    while 32 <= s.len() - i {
-        if has_feed(&s[i..i + 32]) {
-            return i;
-        }
-        i += 32;
-    }
-    i
-}
-
-// Whether a line feed is among the bytes. It looks at all of them: so the compiler can test many at once.
-fn has_feed(s: &[u8]) -> bool
-    ensures { not result ≡ all no_feed s.now }
-{
-    let mut found = false;
-    let mut i: usize = 0;
-    while i < s.len() {
-        found = found | (s[i] == 10);
-        i += 1;
-    }
-    found
+    let read = whole_line(&mut session.held, part);
+    answer_line(
+        &mut session.book,
+        page,
+        session.line,
+        &mut session.tally,
+        read,
+    );
+    session.line += 1;
+    session.held.clear();
 }
 
 // Reads the line whose last part this is. Where nothing of it is held it is read where it lies.
-fn whole_line(hold: &mut [u8], held: usize, part: &[u8]) -> Line
-    requires held_le_most_held { held ≤ most_held }
-    requires hold_len { length hold.old ≡ most_held }
-    ensures { result ≡ read_line (holds (take held hold.old) part.now) }
+#[tactic(auto, using(crate::proofs::Held::read_there))]
+fn whole_line(held: &mut Held, part: &[u8]) -> Result<Call, FailsAt>
+    ensures { result ≡ read_line (holds held.old part.now) }
 {
-    if held == 0 {
+    if held.is_empty() {
         return read_line(part);
     }
-    let n = hold_part(hold, held, part);
-    read_line(&hold[..n])
+    held.extend(part);
+    read_line(held.as_slice())
 }
 
-// Feeds a read, line after line, while the output has room for the longest reply: at most six numbers
-// and 1,024 pieces of 42 bytes are fewer than 45,000. After 100,000 lines the rest of a read is passed
-// over. Answers how far it came: what stands on the page is to be given out, and the rest of the read fed
-// with the page begun anew.
-pub fn run_some(
-    f: Feeding,
-    inbox: &mut [u64],
-    outbox: &mut [u64],
-    history: &mut [u64],
-    hold: &mut [u8],
-    out: &mut [u8],
-    chunk: &[u8],
-) -> Fed
-    requires ready { Ready f hold.old }
-    requires at_in_bounds { f.at ≤ length out.old }
-    ensures { RunSome (kept f inbox.old outbox.old history.old hold.old out.old) chunk.now result.next (kept result.feeding inbox.new outbox.new history.new hold.new out.new) }
+// "For each line it writes line number and reply number", then the values and the pieces, if any; and the reply is
+// counted.
+#[tactic(auto, using(crate::proofs::Answering::malformed_tally), unfolding(rules::specs::Transcript::answer_line))]
+fn answer_line(
+    book: &mut Book,
+    page: &mut Page,
+    line: u64,
+    tally: &mut Tally,
+    read: Result<Call, FailsAt>,
+)
+    requires done_bound { tally.old.done ≤ 100000 }
+    requires other_bound { tally.old.other ≤ 100000 }
+    ensures book_after { book.new ≡ (answer_line book.old read).book }
+    ensures page_after { page.new ≡ put page.old (reply_text line (answer_line book.old read)) }
+    ensures tally_after { tally.new ≡ tallied tally.old (answer_line book.old read).reply.number }
 {
-    let run = f.running;
-    let mut desk = run.desk;
-    let tally = run.tally;
-    let mut w = Written {
-        tally,
-        line: run.line,
-        at: f.at,
-    };
-    let mut held = f.held;
-    let mut k: usize = 0;
-    while k < chunk.len() {
-        if !has_room(out.len(), w.at) {
-            return so_far(desk, w, held, k);
-        }
-        if 100000 < w.line {
-            return so_far(desk, w, held, chunk.len());
-        }
-        let rest = &chunk[k..];
-        let n = feed_at(rest);
-        if rest.len() <= n {
-            held = hold_part(hold, held, rest);
-            return so_far(desk, w, held, chunk.len());
-        }
-        let l = whole_line(hold, held, &rest[..n]);
-        let counts = desk.counts;
-        let heard = hear(
-            &desk.balances,
-            &desk.holders,
-            &desk.lifetime,
-            &desk.settled,
-            counts,
-            inbox,
-            outbox,
-            history,
-            l,
-        );
-        match heard {
-            Heard::Said(a) => w = answer_said(w, out, a),
-            Heard::Due(c) => {
-                let after = answer_call(desk, inbox, outbox, history, out, w, c);
-                desk = after.desk;
-                w = after.written;
-            }
-        }
-        held = 0;
-        k += n + 1;
+    match read {
+        Ok(c) => counted_step(book, page, line, tally, c),
+        Err(field) => put_malformed(page, line, tally, field),
     }
-    so_far(desk, w, held, k)
 }
 
-// What is kept so far, and how far it came.
-fn so_far(desk: Desk, w: Written, held: usize, next: usize) -> Fed
-    ensures { result ≡ record { feeding = feeding_of desk w held; next = next } }
+// 1 Malformed, with the field that the line tells: the book is as it was.
+fn put_malformed(page: &mut Page, line: u64, tally: &mut Tally, field: FailsAt)
+    requires done_bound { tally.old.done ≤ 100000 }
+    requires other_bound { tally.old.other ≤ 100000 }
+    ensures page_after { page.new ≡ put page.old (reply_line line (told (Err (Refusal.Malformed field.0)))) }
+    ensures tally_after { tally.new ≡ tallied tally.old 1 }
 {
-    let tally = w.tally;
-    let running = Running {
-        desk,
-        tally,
-        line: w.line,
-    };
-    let feeding = Feeding {
-        running,
-        held,
-        at: w.at,
-    };
-    Fed { feeding, next }
-}
-
-// Whether the page has room for the longest reply.
-fn has_room(len: usize, at: usize) -> bool
-    ensures { result ≡ leb 45000 (len - at) }
-{
-    if len < at {
-        return false;
-    }
-    45000 <= len - at
+    put_reply_line(page, line, Err(Refusal::from(field)));
+    raise(tally, 1);
 }
 
 // At the end of the input: "An unfinished last line is Malformed", and last comes `end`.
-pub fn close(f: Feeding, hold: &[u8], out: &mut [u8]) -> usize
-    requires ready { Ready f hold.now }
-    requires at_in_bounds { f.at + 45000 ≤ length out.old }
-    ensures { Closed f hold.now out.old out.new result }
+pub fn close(session: &Session, page: &mut Page)
+    requires { page.old.upto + 45000 ≤ length page.old.bytes }
+    ensures { Closed session.now page.old page.new }
 {
-    let run = f.running;
-    let tally = run.tally;
-    let n = f.held;
-    if 100000 < run.line {
-        return put_end(out, f.at, tally);
+    let tally = put_unfinished(session, page);
+    put_end(page, tally);
+}
+
+// The reply to an unfinished last line, if there is one. The tally after it.
+fn put_unfinished(session: &Session, page: &mut Page) -> Tally
+    ensures { Ended session.now page.old result page.new }
+{
+    let mut tally = session.tally;
+    if session.is_stopped() || session.held.is_empty() {
+        return tally;
     }
-    if n == 0 {
-        return put_end(out, f.at, tally);
-    }
-    let w = Written {
-        tally,
-        line: run.line,
-        at: f.at,
-    };
-    let field = unread_field(&hold[..n]);
-    let why = Refusal::Malformed(field);
-    let answer = Answer::Refused(why);
-    let told = answer_said(w, out, answer);
-    let raised = told.tally;
-    put_end(out, told.at, raised)
+    let field = unread_field(session.held.as_slice());
+    put_malformed(page, session.line, &mut tally, field);
+    tally
 }

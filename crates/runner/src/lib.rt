@@ -2,5 +2,6 @@
 #![tactic(auto)]
 
 pub mod feed;
-pub mod running;
-pub mod start;
+mod find;
+pub mod hold;
+pub mod session;

@@ -1,16 +1,16 @@
 -- The line of an answer, piece by piece, and the tally that it raises.
-use Prim.Native.Nat.{ℕ, ◌+◌, ◌≤◌, ◌<◌}
-use mathlib.Core.Path.{◌≡◌, refl, sym, ap, subst, ◌∙◌}
-use mathlib.Core.Bool.{Bool, true, false, not, ◌&&◌}
-use lib.Dec.{T as Holds, ltb, nltb→le}
-use mathlib.Core.List.{List, [], ◌∷◌, ◌++◌}
+use Rattle.std.specs.Prelude.{Ok}
+use Prim.Native.Nat.{ℕ, ◌+◌, ◌<◌, min}
+use mathlib.Core.Path.{◌≡◌, sym, ap, ◌∙◌}
+use mathlib.Core.List.{List, [], ◌∷◌, ◌++◌, append_assoc}
 use mathlib.Core.Logic.{◌≢◌}
-use native.Mathlib.Omega.{arith}
 use lib.ListN.{length, get_or, take}
-use lib.Seq.{take_all, take-suc}
+use lib.Seq.{take-suc}
+use Rattle.std.proofs.lemmas.List.{take_min}
+use Rattle.std.proofs.Math.Seq.{take-length}
 use native.Mathlib.Numerals.{add-one}
 use Rattle.rules.specs.declared.rows.Lot.{Lot}
-use Rattle.rules.specs.declared.answers.Answer.{Answer}
+use Rattle.rules.specs.Types.{Answer}
 use Rattle.rules.specs.declared.answers.Tally.{Tally}
 use Rattle.rules.specs.Lists.{joined}
 use Rattle.rules.specs.Lots.{no_lot}
@@ -19,60 +19,45 @@ use Rattle.rules.specs.Replies.{told}
 use Rattle.rules.specs.Transcript.{piece_values, tallied}
 use Rattle.rules.proofs.Accepts.{not_done}
 use Rattle.pages.specs.Writing.{Page, put}
-use Rattle.replies.specs.Writing.{reply_start}
+use Rattle.replies.specs.Writing.{reply_start, reply_line}
 use Rattle.pages.proofs.PageLaws.{put_then, put-nothing}
 use Rattle.replies.proofs.ReplyLaws.{put-pieces}
-use Rattle.steps.specs.Step.{handed, handed_count, answer_text}
+use Rattle.rules.specs.declared.answers.Done.{Done}
+use Rattle.steps.specs.Step.{handed, answer_text}
 
 -- ---- the pieces, one after the other
-abbrev pub pieces_text : ℕ → List Lot → List ℕ
-pieces_text n t = tabbed (joined piece_values (take n t))
+abbrev pub pieces_text : List Lot → List ℕ
+pieces_text ps = tabbed (joined piece_values ps)
 
-pub no_pieces : (p : Page) (t : List Lot) → p ≡ put p (pieces_text 0 t)
+pub no_pieces : (p : Page) → p ≡ put p (pieces_text [])
 unfolding joined tabbed
-no_pieces p t = put-nothing p
+no_pieces p = put-nothing p
 
-pub more-pieces : (p : Page) {q r : Page} (t : List Lot) (i : ℕ) (l : Lot) → i < length t → l ≡ get_or t i no_lot → q ≡ put p (pieces_text i t) → r ≡ put q (tabbed (piece_values l)) → r ≡ put p (pieces_text (i + 1) t)
-more-pieces p t i l h k e f = rw (add-one i, take-suc t i no_lot h, ← k) (put-pieces p (take i t) l e f)
+pub more_pieces : (p : Page) {q r : Page} (t : List Lot) (i : ℕ) → i < length t → q ≡ put p (pieces_text (take i t)) → r ≡ put q (tabbed (piece_values (get_or t i no_lot))) → r ≡ put p (pieces_text (take (i + 1) t))
+more_pieces p t i h e f = rw (add-one i, take-suc t i no_lot h) (put-pieces p (take i t) (get_or t i no_lot) e f)
 
--- past the end of the table there are no more
-all-pieces : (p : Page) {q : Page} (t : List Lot) (i n : ℕ) → length t ≤ i → i ≤ n → q ≡ put p (pieces_text i t) → q ≡ put p (pieces_text n t)
-all-pieces p t i n h k e =
-    let l : length t ≤ n = omega arith in
-    e ∙ ap (λ (ls : List Lot). put p (tabbed (joined piece_values ls))) (take_all i t h ∙ sym (take_all n t l))
-
--- the loop that writes them ends at the nth, or where the table does
-pub pieces_end : (p : Page) {q : Page} (t : List Lot) (i n : ℕ) → i ≤ n → Holds (not (ltb i n && ltb i (length t))) → q ≡ put p (pieces_text i t) → q ≡ put p (pieces_text n t)
-pieces_end p {q} t i n h stop e = go (ltb i n) (ltb i (length t)) refl refl stop
-  where
-    go : (x y : Bool) → ltb i n ≡ x → ltb i (length t) ≡ y → Holds (not (x && y)) → q ≡ put p (pieces_text n t)
-    go true true a b o = absurd o
-    go true false a b o = all-pieces p t i n (nltb→le i (length t) (subst (λ (z : Bool). Holds (not z)) (sym b) tt)) h e
-    go false y a b o =
-        let l : n ≤ i = nltb→le i n (subst (λ (z : Bool). Holds (not z)) (sym a) tt) in
-        let s : i ≡ n = omega arith in
-        subst (λ (m : ℕ). q ≡ put p (pieces_text m t)) s e
+-- all of those that are handed out, and the table has no more than these
+pub all_pieces : (p : Page) {q : Page} (t : List Lot) (n : ℕ) → q ≡ put p (pieces_text (take (length (take (min n (length t)) t)) (take (min n (length t)) t))) → q ≡ put p (pieces_text (take n t))
+all_pieces p t n e = e ∙ ap (λ (ls : List Lot). put p (pieces_text ls)) (take-length (take (min n (length t)) t) ∙ take_min n t)
 
 -- ---- the whole line
-handed-counted : (a : Answer) (t : List Lot) → handed a t ≡ take (handed_count a) t
-unfolding handed handed_count
-handed-counted Answer.Done t = refl
-handed-counted (Answer.Sent x) t = refl
-handed-counted (Answer.Traced n) t = refl
-handed-counted (Answer.Refused why) t = refl
+-- of an answer that hands out no pieces
+pub answer_alone : (n : ℕ) (a : Answer) (t : List Lot) → handed a t ≡ [] → reply_line n (told a) ≡ answer_text n a t
+unfolding answer_text reply_line joined tabbed
+answer_alone n a t h = rw h (sym (append_assoc (reply_start n (told a)) [] (line_feed ∷ [])))
 
-pub answer-text : (p : Page) {q r s : Page} (n : ℕ) (a : Answer) (t : List Lot) (k : ℕ) → k ≡ handed_count a → q ≡ put p (reply_start n (told a)) → r ≡ put q (pieces_text k t) → s ≡ put r (line_feed ∷ [])
-    → s ≡ put p (answer_text n a t)
-unfolding answer_text
-answer-text p n a t k c e f g =
-    rw (handed-counted a t, ← c)
-    (put_then p (reply_start n (told a) ++ pieces_text k t) (line_feed ∷ []) (put_then p (reply_start n (told a)) (pieces_text k t) e f) g)
+pub answer_line : (p : Page) {q r s : Page} (n k : ℕ) (t : List Lot) → q ≡ put p (reply_start n (told (Ok (Done.Traced k)))) → r ≡ put q (pieces_text (take k t)) → s ≡ put r (line_feed ∷ [])
+    → s ≡ put p (answer_text n (Ok (Done.Traced k)) t)
+unfolding answer_text handed
+answer_line p n k t e f g =
+    put_then p (reply_start n (told (Ok (Done.Traced k))) ++ pieces_text (take k t)) (line_feed ∷ [])
+    (put_then p (reply_start n (told (Ok (Done.Traced k)))) (pieces_text (take k t)) e f) g
 
 -- ---- the tally
-pub raised-done : (t : Tally) (n : ℕ) → n ≡ 0 → record { done = t.done + 1; other = t.other } ≡ tallied t n
+pub raised_done : (t : Tally) (n : ℕ) → n ≡ 0 → record { done = t.done + 1; other = t.other } ≡ tallied t n
 unfolding tallied
-raised-done t n e = rw e
+raised_done t n e = rw e
 
-pub raised-other : (t : Tally) (n : ℕ) → n ≢ 0 → record { done = t.done; other = t.other + 1 } ≡ tallied t n
+pub raised_other : (t : Tally) (n : ℕ) → n ≢ 0 → record { done = t.done; other = t.other + 1 } ≡ tallied t n
 unfolding tallied
-raised-other t n e = rw (not_done {A = Tally} n (record { done = t.done + 1; other = t.other }) (record { done = t.done; other = t.other + 1 }) e)
+raised_other t n e = rw (not_done {A = Tally} n (record { done = t.done + 1; other = t.other }) (record { done = t.done; other = t.other + 1 }) e)

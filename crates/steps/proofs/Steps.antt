@@ -1,71 +1,75 @@
 -- What a call's own function gives is what the step leaves: only a trace hands out pieces, and a trace leaves the book as it was.
+use Rattle.std.specs.Prelude.{Ok, Err}
 use Prim.Native.Nat.{ℕ, zero, suc}
 use mathlib.Core.Path.{◌≡◌, refl, sym, ap, ◌∙◌}
 use mathlib.Core.List.{List, []}
+use mathlib.Core.Bool.{false}
 use native.Mathlib.Omega.{arith}
 use lib.ListN.{length, get_or, take}
 use Rattle.rules.specs.declared.rows.Nonce.{Nonce}
 use Rattle.rules.specs.declared.rows.Lot.{Lot}
 use Rattle.rules.specs.declared.calls.Call.{Call}
 use Rattle.rules.specs.declared.calls.SignFields.{SignFields}
-use Rattle.rules.specs.declared.answers.Answer.{Answer}
-use Rattle.rules.specs.declared.answers.Answered.{Answered}
+use Rattle.rules.specs.Types.{Answer}
 use Rattle.rules.specs.Tables.{record_shape}
 use Rattle.rules.specs.State.{Book, view, history_of}
-use Rattle.rules.specs.Replies.{Reply, number_of, told, plain, if_done}
+use Rattle.rules.specs.Replies.{Reply, number_of, told, if_done}
 use Rattle.rules.proofs.Told.{refusal_number}
 use Rattle.rules.specs.Effects.{changes_nothing}
 use Rattle.rules.specs.Answer.{answer, outcome_of, reply_number, reply_with, done_answer, pieces_of, trace_answer, TraceOutcome}
 use Rattle.rules.specs.Facts.{Accepted}
-use Rattle.rules.proofs.Accepts.{accepted-number}
+use Rattle.rules.proofs.Accepts.{accepted-frame}
 use Rattle.rules.proofs.Laying.{length-rows}
-use Rattle.rules.proofs.Books.{nothing_changed}
-use Rattle.ledger.proofs.Laws.{sign-answers}
+use Rattle.rules.proofs.Books.{framed, nothing-laid, nothing_changed}
+use Rattle.desk.proofs.Books.{lays}
 use Rattle.history.specs.Tracing.{trace_outcome_of}
 use Rattle.lots.proofs.TraceJoin.{Enough, trace-reply, trace-pieces}
-use Rattle.pages.specs.Writing.{Page, page, put}
+use Rattle.pages.specs.Writing.{Page, put}
 use Rattle.replies.specs.Writing.{reply_line}
 use Rattle.rules.specs.Transcript.{reply_text}
 use Rattle.replies.proofs.ReplyLaws.{reply-line, reply-text}
-use Rattle.steps.specs.declared.step.Stepped.{Stepped}
-use Rattle.steps.specs.Step.{Replied, HasTables, handed, answer_text, replied_of, replied}
+use Rattle.rules.specs.declared.answers.Done.{Done}
+use Rattle.steps.specs.Step.{Replied, HasTables, is_trace, handed, answer_text, replied_of, replied}
 
 abbrev value_count : Reply → ℕ
 value_count r = length r.values
 
 -- ---- a call that hands out no pieces
-pub plain-replied : (a : Answered) (i o h : List ℕ) (r : Stepped) (out : List ℕ) (n : ℕ) (p : Page) → r.number ≡ (told a.answer).number → r.desk ≡ a.desk → page out r.at ≡ put p (reply_line n (told a.answer))
-    → replied_of r i o h out ≡ replied n p (outcome_of a i o h)
-plain-replied a i o h r out n p e f g = rw (e, f, g, reply-line n (outcome_of a i o h) refl)
-
--- a call that its own function has done: what the rules answer, in tables as long as they came
-pub record Done (b : Book) (c : Call) (i o h : List ℕ) (a : Answered) : Type 0 where
-  pub outcome : outcome_of a i o h ≡ answer b c
-  pub inbox : length i ≡ length b.inbox
-  pub outbox : length o ≡ length b.outbox
-  pub history : length h ≡ length b.history
-
-pub done_as : (b : Book) {c x : Call} {i o h i' o' h' : List ℕ} {a a' : Answered} → c ≡ x → i ≡ i' → o ≡ o' → h ≡ h' → a ≡ a' → Done b x i' o' h' a' → Done b c i o h a
-done_as b e p q r s d = rw (e, p, q, r, s) d
+pub plain-replied : (a : Answer) (left : Book) (k n : ℕ) (p : Page) {q : Page} → k ≡ (told a).number → q ≡ put p (reply_line n (told a)) → replied_of k left q ≡ replied n p (outcome_of a left)
+plain-replied a left k n p e f = rw (e, f, reply-line n (outcome_of a left) refl)
 
 -- a sign changes nothing
-pub signed : (b : Book) (s : SignFields) → Accepted b (Call.Sign s) → outcome_of (record { answer = Answer.Done; desk = b.desk }) b.inbox b.outbox b.history ≡ answer b (Call.Sign s)
-unfolding told
-signed b s y = sign-answers b s Answer.Done (sym (ap plain (accepted-number b (Call.Sign s) y)))
+pub signed : (b : Book) (s : SignFields) → Accepted b (Call.Sign s) → outcome_of (Ok Done.Plain) b ≡ answer b (Call.Sign s)
+unfolding told done_answer pieces_of
+signed b s y =
+    lays b (Call.Sign s) y (Ok Done.Plain) b refl refl
+    (sym (nothing-laid b (Call.Sign s) (unfold changes_nothing in refl) (framed b (accepted-frame b (Call.Sign s) y))))
+
+-- what is none of the traces
+pub no-trace : (c : Call) → ((n : Nonce) → c ≡ Call.Trace n → ⊥) → is_trace c ≡ false
+no-trace (Call.Deposit d) h = refl
+no-trace (Call.Claim c) h = refl
+no-trace (Call.Transfer t) h = refl
+no-trace (Call.Withdraw w) h = refl
+no-trace Call.Send h = refl
+no-trace (Call.Settle n) h = refl
+no-trace (Call.Grant g) h = refl
+no-trace (Call.Sign g) h = refl
+no-trace (Call.Trace n) h = absurd (h n refl)
 
 -- ---- a trace
 -- a done trace hands out as many rows as there are pieces
-handed-traced : (a : Answer) (k : ℕ) (ps t : List Lot) → told a ≡ reply_with k (told (Answer.Traced (length ps)))
+handed-traced : (a : Answer) (k : ℕ) (ps t : List Lot) → told a ≡ reply_with k (told (Ok (Done.Traced (length ps))))
     → take (length (if_done k ps [])) t ≡ if_done k ps [] → handed a t ≡ if_done k ps []
 unfolding handed told
-handed-traced Answer.Done zero ps t e f = absurd (let z : ◌≡◌ {A = ℕ} 0 1 = ap value_count e in omega arith)
-handed-traced Answer.Done (suc k) ps t e f = refl
-handed-traced (Answer.Sent x) zero ps t e f = absurd (let z : ◌≡◌ {A = ℕ} 4 1 = ap value_count e in omega arith)
-handed-traced (Answer.Sent x) (suc k) ps t e f = refl
-handed-traced (Answer.Traced m) zero ps t e f = let q : m ≡ length ps = ap (λ (r : Reply). get_or r.values 0 0) e in rw q f
-handed-traced (Answer.Traced m) (suc k) ps t e f = absurd (let z : ◌≡◌ {A = ℕ} 1 0 = ap value_count e in omega arith)
-handed-traced (Answer.Refused why) zero ps t e f = absurd (let z : number_of why ≡ 0 = ap (λ (r : Reply). r.number) e in omega (arith, refusal_number why))
-handed-traced (Answer.Refused why) (suc k) ps t e f = refl
+handed-traced (Ok Done.Plain) zero ps t e f = absurd (let z : ◌≡◌ {A = ℕ} 0 1 = ap value_count e in omega arith)
+handed-traced (Ok Done.Plain) (suc k) ps t e f = refl
+handed-traced (Ok (Done.Sent x)) zero ps t e f = absurd (let z : ◌≡◌ {A = ℕ} 4 1 = ap value_count e in omega arith)
+handed-traced (Ok (Done.Sent x)) (suc k) ps t e f = refl
+handed-traced (Ok (Done.Traced m)) zero ps t e f = let q : m ≡ length ps = ap (λ (r : Reply). get_or r.values 0 0) e in rw q f
+handed-traced (Ok (Done.Traced m)) (suc k) ps t e f = absurd (let z : ◌≡◌ {A = ℕ} 1 0 = ap value_count e in omega arith)
+handed-traced (Err why) zero ps t e f = absurd (let z : number_of why ≡ 0 = ap (λ (r : Reply). r.number) e in omega (arith, refusal_number why))
+handed-traced (Err why) (suc k) ps t e f = refl
 
 abbrev reply_found : TraceOutcome → Reply
 reply_found o = o.reply
@@ -93,9 +97,9 @@ module _ (b : Book) (work out : List Lot) (n : Nonce) (a : Answer) (work' out' :
   unfolding answer pieces_of done_answer
   pieces_are = handed-traced a (reply_number b (Call.Trace n)) (pieces_of (view b) (Call.Trace n)) out' reply_is rows_are
 
-  pub trace-replied : (k : ℕ) (p q : Page) (m : ℕ) → m ≡ (told a).number → q ≡ put p (answer_text k a out')
+  pub trace_replied : (k : ℕ) (p q : Page) (m : ℕ) → m ≡ (told a).number → q ≡ put p (answer_text k a out')
       → ◌≡◌ {A = Replied} (record { book = b; number = m; text = q }) (replied k p (answer b (Call.Trace n)))
   unfolding answer_text
-  trace-replied k p q m c f =
+  trace_replied k p q m c f =
       rw (f, c, reply_is, pieces_are, ← reply-text k (answer b (Call.Trace n)))
       (ap (λ (x : Book). record { book = x; number = (answer b (Call.Trace n)).reply.number; text = put p (reply_text k (answer b (Call.Trace n))) }) (sym (nothing_changed b (Call.Trace n) (unfold changes_nothing in refl))))

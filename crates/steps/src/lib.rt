@@ -1,7 +1,6 @@
 // One call answered, its reply written, and the tally raised once.
 #![tactic(auto)]
 
-pub mod counted;
 pub mod step;
 pub mod tally;
 pub mod traced;

@@ -1,108 +1,118 @@
-// One call of the nine: answered, and its reply's line written.
-ghost use Rattle.std.specs.Prelude.{◌≡◌};
+// One call of the nine: answered, its reply's line written, and counted.
+ghost use Rattle.std.specs.Prelude.{◌≡◌, ◌≤◌, false, Ok};
 ghost use Rattle.rules.specs.Facts.{Accepted};
-ghost use Rattle.rules.specs.Replies.{told};
-ghost use Rattle.rules.specs.Answer.{book_of, answer};
-ghost use Rattle.pages.specs.Writing.{page, put};
+ghost use Rattle.rules.specs.Replies.{told, plainly, plain};
+ghost use Rattle.rules.specs.Answer.{answer, outcome_of, reply_number};
+ghost use Rattle.rules.specs.Transcript.{tallied};
+ghost use Rattle.pages.specs.Writing.{put};
 ghost use Rattle.replies.specs.Writing.{reply_line};
-ghost use Rattle.steps.specs.Step.{replied_of, replied};
+ghost use Rattle.steps.specs.Step.{is_trace, replied_of, replied};
 
+use crate::tally::raise;
 use crate::traced::put_trace;
-use desk::answers::is_done;
+use pages::Page;
 use refusals::call_reply;
 use replies::{put_reply_line, reply_number};
-use rules::answers::{Answer, Answered};
+use rules::answers::{Answer, Done, Refusal, Tally};
+use rules::book::{Book, BookView};
 use rules::calls::Call;
-use rules::desk::Desk;
 
-// What a step leaves beside the lent tables: the reply's number, the desk, and the place up to which the
-// output is written.
-#[derive(Clone, Copy)]
-pub struct Stepped {
-    pub number: u64,
-    pub desk: Desk,
-    pub at: usize,
-}
-
-// "A read line is one of nine calls": what refuses it is asked first, and where nothing does it is done.
-pub fn step(
-    d: Desk,
-    inbox: &mut [u64],
-    outbox: &mut [u64],
-    history: &mut [u64],
-    out: &mut [u8],
-    at: usize,
-    line: u64,
-    c: Call,
-) -> Stepped
-    ensures { replied_of result inbox.new outbox.new history.new out.new ≡ replied line (page out.old at) (answer (book_of d inbox.old outbox.old history.old) c) }
+// "A read line is one of nine calls": what refuses it is asked first, and where nothing does it is done. The reply's
+// number.
+pub fn step(book: &mut Book, page: &mut Page, line: u64, c: Call) -> u64
+    ensures { replied_of result book.new page.new ≡ replied line page.old (answer book.old c) }
 {
-    let counts = d.counts;
-    let reply = call_reply(
-        &d.balances,
-        &d.holders,
-        &d.lifetime,
-        &d.settled,
-        counts,
-        inbox,
-        outbox,
-        history,
-        c,
-    );
-    if !is_done(reply) {
-        let a = Answered {
-            answer: reply,
-            desk: d,
-        };
-        return put_answered(out, at, line, a);
+    match reply_of(book, c) {
+        Err(why) => put_answered(page, line, Err(why)),
+        Ok(()) => step_done(book, page, line, c),
     }
-    step_done(d, inbox, outbox, history, out, at, line, c)
 }
 
-// A call that nothing refuses: each is done by its own function. Only a trace, which works in tables of its own, is
-// tested again; a sign changes nothing.
-pub(crate) fn step_done(
-    d: Desk,
-    inbox: &mut [u64],
-    outbox: &mut [u64],
-    history: &mut [u64],
-    out: &mut [u8],
-    at: usize,
-    line: u64,
-    c: Call,
-) -> Stepped
-    requires { Accepted (book_of d inbox.old outbox.old history.old) c }
-    ensures { replied_of result inbox.new outbox.new history.new out.new ≡ replied line (page out.old at) (answer (book_of d inbox.old outbox.old history.old) c) }
+// What refuses the call, if anything does.
+fn reply_of(book: &Book, c: Call) -> Result<(), Refusal>
+    ensures { told (plainly result) ≡ plain (reply_number book.now c) }
 {
-    let a = match c {
-        Call::Deposit(x) => inbox::deposit_done(d, inbox, outbox, history, x),
-        Call::Claim(x) => inbox::claim_done(d, inbox, outbox, history, x),
-        Call::Transfer(x) => ledger::transfer_done(d, inbox, outbox, history, x),
-        Call::Withdraw(x) => outbox::withdraw_done(d, inbox, outbox, history, x),
-        Call::Send => outbox::send_done(d, inbox, outbox, history),
-        Call::Settle(n) => outbox::settle_done(d, inbox, outbox, history, n),
-        Call::Grant(x) => ledger::grant_done(d, inbox, outbox, history, x),
-        Call::Sign(_) => {
-            let answer = Answer::Done;
-            Answered { answer, desk: d }
-        }
-        Call::Trace(n) => return put_trace(d, inbox, outbox, history, out, at, line, n),
+    let view = BookView {
+        desk: book.desk,
+        inbox: book.inbox,
+        outbox: book.outbox,
+        history: book.history,
     };
-    put_answered(out, at, line, a)
+    call_reply(&view, c)
 }
 
-// The reply's line of an answer that hands out no pieces.
-fn put_answered(out: &mut [u8], at: usize, line: u64, a: Answered) -> Stepped
-    ensures number_value { result.number ≡ (told a.answer).number }
-    ensures desk_value { result.desk ≡ a.desk }
-    ensures at_after { page out.new result.at ≡ put (page out.old at) (reply_line line (told a.answer)) }
+// "One tally, handed to each step and updated there": raised once, by the number of the step's reply.
+pub fn counted_step(book: &mut Book, page: &mut Page, line: u64, tally: &mut Tally, c: Call)
+    requires done_bound { tally.old.done ≤ 100000 }
+    requires other_bound { tally.old.other ≤ 100000 }
+    ensures replied { replied_of (answer book.old c).reply.number book.new page.new ≡ replied line page.old (answer book.old c) }
+    ensures tally_after { tally.new ≡ tallied tally.old (answer book.old c).reply.number }
 {
-    let answer = a.answer;
-    let desk = a.desk;
-    let p = put_reply_line(out, at, line, answer);
-    Stepped {
-        number: reply_number(answer),
-        desk,
-        at: p,
+    let number = step(book, page, line, c);
+    raise(tally, number);
+}
+
+// A call that nothing refuses. Only a trace, which works in tables of its own, is tested again.
+fn step_done(book: &mut Book, page: &mut Page, line: u64, c: Call) -> u64
+    requires { Accepted book.old c }
+    ensures { replied_of result book.new page.new ≡ replied line page.old (answer book.old c) }
+{
+    match c {
+        Call::Trace(n) => put_trace(book, page, line, n),
+        _ => {
+            let done = call_done(book, c);
+            put_answered(page, line, Ok(done))
+        }
     }
+}
+
+// Each call but a trace is done by its own function; a sign changes nothing.
+#[tactic(auto, using(crate::proofs::Steps::signed))]
+fn call_done(book: &mut Book, c: Call) -> Done
+    requires accepted { Accepted book.old c }
+    requires no_trace { is_trace c ≡ false }
+    ensures { outcome_of (Ok result) book.new ≡ answer book.old c }
+{
+    let desk = &mut *book.desk;
+    let inbox = &mut *book.inbox;
+    let outbox = &mut *book.outbox;
+    let history = &mut *book.history;
+    match c {
+        Call::Deposit(x) => {
+            inbox::deposit_done(desk, inbox, outbox, history, x);
+            Done::Plain
+        }
+        Call::Claim(x) => {
+            inbox::claim_done(desk, inbox, outbox, history, x);
+            Done::Plain
+        }
+        Call::Transfer(x) => {
+            ledger::transfer_done(desk, inbox, outbox, history, x);
+            Done::Plain
+        }
+        Call::Withdraw(x) => {
+            outbox::withdraw_done(desk, inbox, outbox, history, x);
+            Done::Plain
+        }
+        Call::Send => Done::Sent(outbox::send_done(desk, inbox, outbox, history)),
+        Call::Settle(n) => {
+            outbox::settle_done(desk, inbox, outbox, history, n);
+            Done::Plain
+        }
+        Call::Grant(x) => {
+            ledger::grant_done(desk, inbox, outbox, history, x);
+            Done::Plain
+        }
+        Call::Sign(_) => Done::Plain,
+        Call::Trace(_) => unreachable!(),
+    }
+}
+
+// The reply's line of an answer that hands out no pieces, and its number.
+pub(crate) fn put_answered(page: &mut Page, line: u64, a: Answer) -> u64
+    ensures number_value { result ≡ (told a).number }
+    ensures page_after { page.new ≡ put page.old (reply_line line (told a)) }
+{
+    put_reply_line(page, line, a);
+    reply_number(a)
 }

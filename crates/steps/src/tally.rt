@@ -4,21 +4,16 @@ ghost use Rattle.rules.specs.Transcript.{tallied};
 
 use rules::answers::Tally;
 
-// The tally with one reply more: all that is added is added here, by value.
-pub fn raised(t: Tally, n: u64) -> Tally
-    requires done_bound { t.done ≤ 100000 }
-    requires other_bound { t.other ≤ 100000 }
-    ensures { result ≡ tallied t n }
+// The tally with one reply more: all that is added is added here.
+#[tactic(auto, using(crate::proofs::Pages::raised_done, crate::proofs::Pages::raised_other))]
+pub fn raise(tally: &mut Tally, number: u64)
+    requires done_bound { tally.old.done ≤ 100000 }
+    requires other_bound { tally.old.other ≤ 100000 }
+    ensures { tally.new ≡ tallied tally.old number }
 {
-    if n == 0 {
-        Tally {
-            done: t.done + 1,
-            other: t.other,
-        }
+    if number == 0 {
+        tally.done += 1;
     } else {
-        Tally {
-            done: t.done,
-            other: t.other + 1,
-        }
+        tally.other += 1;
     }
 }

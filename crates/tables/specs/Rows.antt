@@ -1,5 +1,5 @@
 -- What the functions over a flat table do on every table: where the rows do not lie within it, nothing.
-use Rattle.std.specs.Prelude.{ℕ, ◌+◌, ◌*◌, Bool, ◌&&◌, cond, List, leb, ltb, length, take, drop}
+use Rattle.std.specs.Prelude.{ℕ, ◌+◌, ◌-◌, ◌*◌, Bool, ◌&&◌, cond, List, ◌++◌, leb, ltb, length, take, drop, replicate}
 use Rattle.rules.specs.Lists.{same, index_of}
 use Rattle.rules.specs.Tables.{Shape, rows_of, splice, without_row}
 
@@ -7,9 +7,17 @@ use Rattle.rules.specs.Tables.{Shape, rows_of, splice, without_row}
 abbrev pub bare : ℕ → Shape (List ℕ)
 bare w = record { width = w; flat = λ r. r; row = λ r. r }
 
+-- the row of this shape whose numbers lie from a place of a table on
+abbrev pub row_from : {A : Type 0} → Shape A → ℕ → List ℕ → A
+row_from shape at t = shape.row (take shape.width (drop at t))
+
 -- row i of a table of rows of this shape
 abbrev pub row_at : {A : Type 0} → Shape A → ℕ → List ℕ → A
-row_at shape i t = shape.row (take shape.width (drop (i * shape.width) t))
+row_at shape i t = row_from shape (i * shape.width) t
+
+-- the first n numbers of a list, with zeros for those that it does not have
+abbrev pub padded : ℕ → List ℕ → List ℕ
+padded n t = take n t ++ replicate (n - length t) 0
 
 -- so many rows lie within the table
 abbrev pub lie_within : ℕ → ℕ → List ℕ → Bool

@@ -1,16 +1,18 @@
 -- Lots that join the end: one more, as many as fit, and none where no row is left.
-use Prim.Native.Nat.{ℕ, zero, suc, ◌+◌, ◌-◌, ◌≤◌, ◌<◌}
-use mathlib.Core.Path.{◌≡◌, refl, sym, ap, ◌∙◌}
-use mathlib.Core.Bool.{Bool, true, false, not, ◌&&◌}
-use mathlib.Core.List.{List, [], ◌∷◌, ◌++◌, map, map-append, append_assoc, append-nil}
+use Prim.Native.Nat.{ℕ, zero, suc, ◌+◌, ◌≤◌, ◌<◌}
+use mathlib.Core.Path.{◌≡◌, refl, sym, ap, ap₂, ◌∙◌}
+use mathlib.Core.Logic.{◌⊎◌, inl, inr}
+use mathlib.Core.Bool.{Bool, true, false}
+use mathlib.Core.List.{List, [], ◌∷◌, ◌++◌, map, append_assoc, append-nil}
 use native.Mathlib.Numerals.{add-one}
 use native.Mathlib.Omega.{arith}
-use lib.Dec.{T as Holds, ltb}
-use lib.ListN.{length, get_or, set, take, drop, length-append, length-drop, length-map}
-use lib.Seq.{take-suc, take-add, length-take-le, take_all, take-length, take_at, take-append-le, drop-cons, append_snoc, set_at, set_split, set_out}
+use lib.Dec.{ltb}
+use lib.ListN.{length, set, take, drop, length-append, length-drop}
+use lib.Seq.{take-suc-set, drop-set-lt, length-take-le, take_all, take-length, take_at, take-append-le, append_snoc, set_split, set_out}
 use borrow.Author.Tests.{ltb-true, ltb-false}
+use Rattle.std.proofs.Common.{length-set}
 use Rattle.rules.specs.declared.rows.Lot.{Lot}
-use Rattle.rules.specs.Lots.{no_lot, of_member}
+use Rattle.rules.specs.Lots.{of_member}
 use Rattle.rules.specs.Answer.{in_front}
 use Rattle.takings.specs.Working.{appended}
 
@@ -57,63 +59,46 @@ module _ (used : ℕ) (t : List Lot) where
     pub appended_front : take (used + length ls) (appended used ls t) ≡ take used t ++ ls
     appended_front = rw appended-all (take_at (take used t ++ ls) (drop (length (take used t ++ ls)) t) (used + length ls) count)
 
-  -- one lot is written into the row after the used ones
+  -- one lot is written into the row after the used ones, if there is one
+  pub append_in : (l : Lot) → used < length t → set t used l ≡ appended used (l ∷ []) t
+  append_in l h =
+      let n : length (take used t ++ (l ∷ [])) ≡ suc used = count (l ∷ []) (omega arith) ∙ add-one used in
+      set_split t used l h ∙ sym (appended-all (l ∷ []) (omega arith) ∙ rw n (append_snoc (take used t) l (drop (suc used) t)))
+
+  pub append_out : (l : Lot) → length t ≤ used → t ≡ appended used (l ∷ []) t
+  append_out l h = sym (appended-full [] (l ∷ []) (omega arith) ∙ appended-none)
+
   pub append-set : (l : Lot) → appended used (l ∷ []) t ≡ set t used l
   append-set l = go (ltb used (length t)) refl
     where
       go : (b : Bool) → ltb used (length t) ≡ b → appended used (l ∷ []) t ≡ set t used l
-      go true e =
-          let h : used < length t = ltb-true used (length t) e in
-          let n : length (take used t ++ (l ∷ [])) ≡ suc used = count (l ∷ []) (omega arith) ∙ add-one used in
-          appended-all (l ∷ []) (omega arith) ∙ rw n (append_snoc (take used t) l (drop (suc used) t)) ∙ sym (set_split t used l h)
+      go true e = sym (append_in l (ltb-true used (length t) e))
       go false e =
           let h : length t ≤ used = ltb-false used (length t) e in
-          appended-full [] (l ∷ []) (omega arith) ∙ appended-none ∙ sym (set_out t used l h)
+          sym (append_out l h) ∙ sym (set_out t used l h)
 
--- one more joins those that joined
-pub appended-more : (used : ℕ) (ls t : List Lot) (l : Lot) → used + length ls < length t → appended (used + length ls) (l ∷ []) (appended used ls t) ≡ appended used (ls ++ (l ∷ [])) t
-appended-more used ls t l h =
-    let n : ℕ = used + length ls in
-    let p : List Lot = take used t ++ ls in
-    let here : length p ≡ n = count used t ls (omega arith) in
-    let before : appended used ls t ≡ p ++ get_or t n no_lot ∷ drop (suc n) t = appended-all used t ls (omega arith) ∙ rw here (ap (λ (y : List Lot). p ++ y) (drop-cons t n no_lot h)) in
-    let one : length (ls ++ (l ∷ [])) ≡ length ls + 1 = length-append ls (l ∷ []) in
-    let next : length (take used t ++ (ls ++ (l ∷ []))) ≡ suc n = count used t (ls ++ (l ∷ [])) (omega (arith, one)) ∙ omega (arith, one) in
-    let after : appended used (ls ++ (l ∷ [])) t ≡ p ++ l ∷ drop (suc n) t =
-    appended-all used t (ls ++ (l ∷ [])) (omega (arith, one)) ∙ rw (next, ← append_assoc (take used t) ls (l ∷ [])) (append_snoc p l (drop (suc n) t)) in
-    append-set n (appended used ls t) l ∙ rw (before, after) (set_at p (get_or t n no_lot) (drop (suc n) t) l n here)
+-- a lot and those after it: the one joins first, and then the others behind it
+appended-cons : (n : ℕ) (l : Lot) (ls t : List Lot) → n < length t → appended (n + 1) ls (appended n (l ∷ []) t) ≡ appended n (l ∷ ls) t
+unfolding appended
+appended-cons n l ls t h =
+    let w : List Lot = set t n l in
+    let p : List Lot = take (n + 1) w ++ ls in
+    let q : List Lot = take n t ++ (l ∷ ls) in
+    let e : p ≡ q = ap (λ (k : ℕ). take k w ++ ls) (add-one n) ∙ ap (λ (y : List Lot). y ++ ls) (take-suc-set t n l h) ∙ append_assoc (take n t) (l ∷ []) ls in
+    let far : n < length q = omega (arith, length-append (take n t) (l ∷ ls), length-take-le n t (omega arith)) in
+    let f : in_front p w ≡ in_front q t = ap (λ (y : List Lot). in_front y w) e ∙ ap (λ (y : List Lot). q ++ y) (drop-set-lt (length q) t n l far) in
+    ap (λ (y : List Lot). appended (n + 1) ls y) (append-set n t l) ∙ ap₂ (λ (k : ℕ) (y : List Lot). take k y) (length-set t n l) f
 
 -- ---- pieces that join with a new owner, one after the other
-module _ (m used : ℕ) (held work : List Lot) where
-  abbrev joined : ℕ → List Lot
-  joined n = appended used (map (of_member m) (take n held)) work
+-- the first of them, and then the others
+pub joined_more : (m n k : ℕ) (p : Lot) (ps t : List Lot) → n < length t → appended (n + 1) (map (of_member m) (take k ps)) (appended n (of_member m p ∷ []) t) ≡ appended n (map (of_member m) (take (k + 1) (p ∷ ps))) t
+joined_more m n k p ps t h = rw (add-one k) (appended-cons n (of_member m p) (map (of_member m) (take k ps)) t h)
 
-  -- piece j joins those before it
-  pub joined_more : (j : ℕ) → j < length held → used + j < length work → (l : Lot) → l ≡ get_or held j no_lot → appended (used + j) (of_member m l ∷ []) (joined j) ≡ joined (j + 1)
-  joined_more j there room l e =
-      let ls : List Lot = map (of_member m) (take j held) in
-      let n : length ls ≡ j = length-map (take j held) (of_member m) ∙ length-take-le j held (omega arith) in
-      let one : map (of_member m) (take (j + 1) held) ≡ ls ++ (of_member m l ∷ []) = rw (add-one j, take-suc held j no_lot there, ← e) (map-append (of_member m) (take j held) (l ∷ [])) in
-      ap (λ (k : ℕ). appended (used + k) (of_member m l ∷ []) (joined j)) (sym n)
-      ∙ appended-more used ls work (of_member m l) (omega (arith, n))
-      ∙ ap (λ (ps : List Lot). appended used ps work) (sym one)
-
-  -- no piece is left, or no row
-  pub joined_end : (n j : ℕ) → j ≤ n → j ≤ length held → Holds (not (ltb j n && ltb j (length held) && ltb (used + j) (length work))) → joined j ≡ joined n
-  joined_end n j upto there over = go (ltb j n) (ltb j (length held)) (ltb (used + j) (length work)) refl refl refl over
-    where
-      go : (p q r : Bool) → ltb j n ≡ p → ltb j (length held) ≡ q → ltb (used + j) (length work) ≡ r → Holds (not (p && q && r)) → joined j ≡ joined n
-      go false q r e f g h =
-          let same : j ≡ n = omega (arith, ltb-false j n e) in
-          rw same
-      go true false r e f g h =
-          let out : length held ≤ j = ltb-false j (length held) f in
-          rw (take_all j held out, take_all n held (omega (arith, out)))
-      go true true false e f g h =
-          let out : length work ≤ used + j = ltb-false (used + j) (length work) g in
-          let whole : n ≡ j + (n - j) = omega arith in
-          let more : take n held ≡ take j held ++ take (n - j) (drop j held) = ap (λ (k : ℕ). take k held) whole ∙ take-add j (n - j) held in
-          let count-is : length (map (of_member m) (take j held)) ≡ j = length-map (take j held) (of_member m) ∙ length-take-le j held there in
-          rw (more, map-append (of_member m) (take j held) (take (n - j) (drop j held)))
-          (sym (appended-full used work (map (of_member m) (take j held)) (map (of_member m) (take (n - j) (drop j held))) (omega (arith, out, count-is))))
-      go true true true e f g h = absurd h
+-- no row is left, or no piece
+pub joined_end : (m n k : ℕ) (ps t : List Lot) → (length t ≤ n) ⊎ (0 < k → length ps ≡ 0) → appended n (map (of_member m) (take k ps)) t ≡ t
+joined_end m n k ps t (inl full) = appended-full n t [] (map (of_member m) (take k ps)) (omega (arith, full)) ∙ appended-none n t
+joined_end m n zero ps t (inr e) = appended-none n t
+joined_end m n (suc k) [] t (inr e) = appended-none n t
+joined_end m n (suc k) (p ∷ ps) t (inr e) =
+    let none : length (p ∷ ps) ≡ 0 = e (omega arith) in
+    absurd (omega arith)

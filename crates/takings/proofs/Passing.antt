@@ -1,22 +1,26 @@
 -- The loops over the lots do what the rules say: a taking takes what the rules take and leaves what they leave, the rows left close up, and what is handed out is what was held.
 use Prim.Native.Nat.{ℕ, zero, suc, ◌+◌, ◌-◌, ◌≤◌, ◌<◌}
 use mathlib.Core.Path.{◌≡◌, refl, sym, ap, ap₂, ◌∙◌}
-use mathlib.Core.Bool.{Bool, true, false, not, ◌&&◌, cond}
+use mathlib.Core.Bool.{Bool, true, false, not, cond}
 use mathlib.Core.List.{List, [], ◌∷◌, ◌++◌, map, append_assoc, append-nil}
 use native.Mathlib.Nat.{sub-zero}
 use native.Mathlib.Numerals.{add-one}
 use native.Mathlib.Omega.{arith}
-use lib.Dec.{T as Holds, leb, ltb, eqb}
-use lib.ListN.{length, get_or, set, take, drop, length-take}
+use lib.Dec.{leb, eqb}
+use lib.ListN.{length, get_or, take, drop, length-take, length-drop}
 use lib.Seq.{drop-cons, take-suc, take-suc-set, take-add, drop-set-lt, length-take-le}
-use borrow.Author.Tests.{eqb-true, ltb-false}
+use borrow.Author.Tests.{eqb-true}
+use mathlib.Core.Logic.{◌⊎◌, inl, inr}
+use Rattle.std.proofs.Common.{Option, Some, None}
+use Rattle.std.proofs.lemmas.List.Edits.{take-paste}
+use Rattle.std.specs.List.{copy_within}
 use Rattle.rules.specs.declared.rows.Lot.{Lot}
 use Rattle.rules.specs.Lots.{no_lot, in_line, of_amount, of_member, taken, left}
 use Rattle.rules.specs.Answer.{in_front}
 use Rattle.rules.proofs.Tests.{both}
 use Rattle.takings.specs.declared.work.Taking.{Taking}
 use Rattle.takings.specs.declared.work.Cut.{Cut}
-use Rattle.takings.specs.Working.{taking_of, cut_none, cut_whole, cut_in_two, cut_of, CanTake, TakesFrom, CanClose, ClosesUp, appended}
+use Rattle.takings.specs.Working.{taking_of, cut_none, cut_whole, cut_in_two, cut_of, CanTake, TakesFrom, appended}
 use Rattle.takings.proofs.Appending.{append-set, appended-all}
 
 -- as many rows as can be taken of a table are there
@@ -28,37 +32,42 @@ in_rows (suc n) (l ∷ ls) e =
     omega (arith, in_rows n ls f)
 
 -- ---- one lot
--- what was written into the held table, so many pieces being there: this piece after them, or nothing
-data Held (n : ℕ) (x : Lot) : Bool → ℕ → List Lot → Type 0 where
-  one : Held n x true (n + 1) (x ∷ [])
-  none : Held n x false n []
+-- a lot that has to be written goes into row n, and where there is none the rows stay
+abbrev pub written : Option Lot → ℕ → List Lot → List Lot
+written None n rows = rows
+written (Some x) n rows = appended n (x ∷ []) rows
 
-held_grows : {n k : ℕ} {x : Lot} {b : Bool} {xs : List Lot} → Held n x b k xs → (rows : List Lot) → n < length rows → take k (cond b (set rows n x) rows) ≡ take n rows ++ xs
-held_grows {n} {k} {x} Held.one rows h = rw (add-one n) (take-suc-set rows n x h)
-held_grows {n} {k} {x} Held.none rows h = sym (append-nil (take n rows))
+-- what was written into the held table, so many pieces being there: this piece after them, or nothing
+data Held (n : ℕ) : Option Lot → ℕ → List Lot → Type 0 where
+  one : (x : Lot) → Held n (Some x) (n + 1) (x ∷ [])
+  none : Held n None n []
+
+held_grows : {n k : ℕ} {o : Option Lot} {xs : List Lot} → Held n o k xs → (rows : List Lot) → n < length rows → take k (written o n rows) ≡ take n rows ++ xs
+held_grows {n} (Held.one x) rows h = rw (append-set n rows x, add-one n) (take-suc-set rows n x h)
+held_grows {n} Held.none rows h = sym (append-nil (take n rows))
 
 -- what was written into the work table, so many lots standing closed up in front of row i: this lot after them, or nothing, as row i is the next or its lot is gone
-data Kept (n i : ℕ) (l x : Lot) : Bool → ℕ → List Lot → Type 0 where
-  moved : Kept n i l x true (n + 1) (x ∷ [])
-  stayed : n ≡ i → Kept n i l x false (n + 1) (l ∷ [])
-  gone : Kept n i l x false n []
+data Kept (n i : ℕ) (l : Lot) : Option Lot → ℕ → List Lot → Type 0 where
+  moved : (x : Lot) → Kept n i l (Some x) (n + 1) (x ∷ [])
+  stayed : n ≡ i → Kept n i l None (n + 1) (l ∷ [])
+  gone : Kept n i l None n []
 
-kept_grows : {n i k : ℕ} {l x : Lot} {b : Bool} {xs : List Lot} → Kept n i l x b k xs → (rows : List Lot) → n < length rows → l ≡ get_or rows i no_lot → take k (cond b (set rows n x) rows) ≡ take n rows ++ xs
-kept_grows {n} {i} {k} {l} {x} Kept.moved rows h e = rw (add-one n) (take-suc-set rows n x h)
-kept_grows {n} {i} {k} {l} {x} (Kept.stayed same) rows h e = rw (add-one n, e, sym same) (take-suc rows n no_lot h)
-kept_grows {n} {i} {k} {l} {x} Kept.gone rows h e = sym (append-nil (take n rows))
+kept_grows : {n i k : ℕ} {l : Lot} {o : Option Lot} {xs : List Lot} → Kept n i l o k xs → (rows : List Lot) → n < length rows → l ≡ get_or rows i no_lot → take k (written o n rows) ≡ take n rows ++ xs
+kept_grows {n} (Kept.moved x) rows h e = rw (append-set n rows x, add-one n) (take-suc-set rows n x h)
+kept_grows {n} {i} (Kept.stayed same) rows h e = rw (add-one n, e, sym same) (take-suc rows n no_lot h)
+kept_grows {n} Kept.gone rows h e = sym (append-nil (take n rows))
 
 -- either way the rows after row n, and how many there are, stay as they were
-later_same : (b : Bool) (i n : ℕ) (x : Lot) (rows : List Lot) → n < i → drop i (cond b (set rows n x) rows) ≡ drop i rows
-later_same true i n x rows h = drop-set-lt i rows n x h
-later_same false i n x rows h = refl
+later_same : (o : Option Lot) (i n : ℕ) (rows : List Lot) → n < i → drop i (written o n rows) ≡ drop i rows
+later_same None i n rows h = refl
+later_same (Some x) i n rows h = rw (append-set n rows x) (drop-set-lt i rows n x h)
 
-held_little : {n k : ℕ} {x : Lot} {b : Bool} {xs : List Lot} → Held n x b k xs → k ≤ n + 1
-held_little Held.one = omega arith
+held_little : {n k : ℕ} {o : Option Lot} {xs : List Lot} → Held n o k xs → k ≤ n + 1
+held_little (Held.one x) = omega arith
 held_little Held.none = omega arith
 
-kept-few : {n i k : ℕ} {l x : Lot} {b : Bool} {xs : List Lot} → Kept n i l x b k xs → k ≤ n + 1
-kept-few Kept.moved = omega arith
+kept-few : {n i k : ℕ} {l : Lot} {o : Option Lot} {xs : List Lot} → Kept n i l o k xs → k ≤ n + 1
+kept-few (Kept.moved x) = omega arith
 kept-few (Kept.stayed e) = omega arith
 kept-few Kept.gone = omega arith
 
@@ -66,8 +75,8 @@ kept-few Kept.gone = omega arith
 record CutLaw (m a i : ℕ) (l : Lot) (s : Taking) (c : Cut) : Type 0 where
   pieces : List Lot
   rests : List Lot
-  held : Held s.taken c.piece c.takes c.next.taken pieces
-  kept : Kept s.kept i l c.rest c.moves c.next.kept rests
+  held : Held s.taken c.piece c.next.taken pieces
+  kept : Kept s.kept i l c.rest c.next.kept rests
   takes : (ls : List Lot) → taken m a s.due (l ∷ ls) ≡ pieces ++ taken m a c.next.due ls
   leaves : (ls : List Lot) → left m a s.due (l ∷ ls) ≡ rests ++ left m a c.next.due ls
 
@@ -86,9 +95,9 @@ cut_law : (m a i : ℕ) (l : Lot) (s : Taking) → eqb s.due 0 ≡ false → Cut
 unfolding cut_of
 cut_law m a i l s e = go (in_line m a l) (leb l.amount s.due) refl refl
   where
-    stays : (p : Bool) → eqb s.kept i ≡ p → Kept s.kept i l l (not p) (s.kept + 1) (l ∷ [])
+    stays : (p : Bool) → eqb s.kept i ≡ p → Kept s.kept i l (cond p None (Some l)) (s.kept + 1) (l ∷ [])
     stays true g = Kept.stayed (eqb-true s.kept i g)
-    stays false g = Kept.moved
+    stays false g = Kept.moved l
 
     go : (q r : Bool) → in_line m a l ≡ q → leb l.amount s.due ≡ r → CutLaw m a i l s (cond (not q) (cut_none i l s) (cond r (cut_whole l s) (cut_in_two l s)))
     go false r f g =
@@ -104,7 +113,7 @@ cut_law m a i l s e = go (in_line m a l) (leb l.amount s.due) refl refl
         record {
           pieces = l ∷ [];
           rests = [];
-          held = Held.one;
+          held = Held.one l;
           kept = Kept.gone;
           takes = λ ls. unfold taken in rw (e, f, g);
           leaves = λ ls. unfold left in rw (e, f, g);
@@ -113,8 +122,8 @@ cut_law m a i l s e = go (in_line m a l) (leb l.amount s.due) refl refl
         record {
           pieces = of_amount s.due l ∷ [];
           rests = of_amount (l.amount - s.due) l ∷ [];
-          held = Held.one;
-          kept = Kept.moved;
+          held = Held.one (of_amount s.due l);
+          kept = Kept.moved (of_amount (l.amount - s.due) l);
           takes = λ ls. rw (taken_none m a ls) (unfold taken in rw (e, f, g));
           leaves = λ ls. rw (left-none m a ls) (unfold left in rw (e, f, g));
         }
@@ -153,15 +162,13 @@ module _ (m a x used : ℕ) (work₀ held₀ : List Lot) (can : CanTake used wor
   module _ (i : ℕ) (s : Taking) (work held : List Lot) (g : Going m a x used whole i s work held) (rows : length work ≡ length work₀) (scratch : length held ≡ length held₀) where
     -- one turn: the row read, asked and written
     pub going_on : i < used → eqb s.due 0 ≡ false → (l : Lot) → l ≡ get_or work i no_lot → (c : Cut) → c ≡ cut_of m a i l s
-        → (held' work' : List Lot) → held' ≡ cond c.takes (appended s.taken (c.piece ∷ []) held) held → work' ≡ cond c.moves (appended s.kept (c.rest ∷ []) work) work
+        → (held' work' : List Lot) → held' ≡ written c.piece s.taken held → work' ≡ written c.rest s.kept work
         → Going m a x used whole (i + 1) c.next work' held'
-    going_on more due l e c f held' work' held_by work-by =
-        let hs : held' ≡ cond c.takes (set held s.taken c.piece) held = held_by ∙ ap (λ (y : List Lot). cond c.takes y held) (append-set s.taken held c.piece) in
-        let ws : work' ≡ cond c.moves (set work s.kept c.rest) work = work-by ∙ ap (λ (y : List Lot). cond c.moves y work) (append-set s.kept work c.rest) in
+    going_on more due l e c f held' work' hs ws =
         let law : CutLaw m a i l s c = rw f (cut_law m a i l s due) in
         let rest : List Lot = rows_left used (i + 1) work in
         let first : rows_left used i work ≡ l ∷ rest = next_row used i work more (omega (arith, rows, can.room)) ∙ ap (λ (y : Lot). y ∷ rest) (sym e) in
-        let later : drop (i + 1) work' ≡ drop (i + 1) work = ap (drop (i + 1)) ws ∙ later_same c.moves (i + 1) s.kept c.rest work (omega (arith, g.few)) in
+        let later : drop (i + 1) work' ≡ drop (i + 1) work = ap (drop (i + 1)) ws ∙ later_same c.rest (i + 1) s.kept work (omega (arith, g.few)) in
         let stays : take c.next.kept work' ≡ take s.kept work ++ law.rests = ap (take c.next.kept) ws ∙ kept_grows law.kept work (omega (arith, g.few, rows, can.room)) e in
         let waits : take c.next.taken held' ≡ take s.taken held ++ law.pieces = ap (take c.next.taken) hs ∙ held_grows law.held held (omega (arith, g.little, scratch, can.scratch)) in
         record {
@@ -180,87 +187,38 @@ module _ (m a x used : ℕ) (work₀ held₀ : List Lot) (can : CanTake used wor
               ∙ g.wait;
         }
 
-    -- the rows before row i that are free are a gap
-    pub can_close : CanClose s.kept i used work
-    can_close = record { up = g.few; within = g.upto; room = omega (arith, rows, can.room) }
+    -- so many rows stay and so many pieces wait, where the rows of each table begin with what the rules leave and take
+    comes : (due n : ℕ) (after : List Lot) → length after ≡ length work → n ≤ used → take n after ≡ left m a x whole → take s.taken held ≡ taken m a x whole → TakesFrom m a x used work₀ (taking_of due n s.taken) after held
+    comes due n after long most stays waits = record {
+      stay = stays;
+      wait = waits;
+      kept = sym (length-take-le n after (omega (arith, long, rows, most, can.room))) ∙ ap length stays;
+      taken = sym (length-take-le s.taken held (omega (arith, scratch, g.little, g.upto, can.scratch))) ∙ ap length waits;
+    }
 
-    module _ (over : Holds (not (ltb i used && not (eqb s.due 0)))) where
-      -- no row is left, or nothing is due any more: the rows left stay, and nothing more is taken
-      rest_stays : left m a s.due (rows_left used i work) ≡ rows_left used i work
-      unfolding left
-      rest_stays = go (ltb i used) (eqb s.due 0) refl refl over
-        where
-          go : (p q : Bool) → ltb i used ≡ p → eqb s.due 0 ≡ q → Holds (not (p && not q)) → left m a s.due (rows_left used i work) ≡ rows_left used i work
-          go false q e f h = rw (none_left used i work (ltb-false i used e))
-          go true true e f h = rw (eqb-true s.due 0 f) (left-none m a (rows_left used i work))
-          go true false e f h = absurd h
+    -- the rows left move up behind those that stay, or stand there
+    moved_up : (after : List Lot) → (after ≡ copy_within work i used s.kept) ⊎ ((s.kept ≡ i) × (after ≡ work)) → take (s.kept + (used - i)) after ≡ take s.kept work ++ rows_left used i work
+    moved_up after (inl e) =
+        ap (take (s.kept + (used - i))) e
+        ∙ take-paste work s.kept (drop i work) (used - i) (omega (arith, g.few, g.upto, rows, can.room)) (rw (length-drop i work) (omega (arith, g.upto, rows, can.room)))
+    moved_up after (inr e) = rw (e.0, e.1) (take-add i (used - i) work)
 
-      rest_none : taken m a s.due (rows_left used i work) ≡ []
-      unfolding taken
-      rest_none = go (ltb i used) (eqb s.due 0) refl refl over
-        where
-          go : (p q : Bool) → ltb i used ≡ p → eqb s.due 0 ≡ q → Holds (not (p && not q)) → taken m a s.due (rows_left used i work) ≡ []
-          go false q e f h = rw (none_left used i work (ltb-false i used e))
-          go true true e f h = rw (eqb-true s.due 0 f) (taken_none m a (rows_left used i work))
-          go true false e f h = absurd h
+    -- nothing is due any more: nothing more is taken, and the rows left move up
+    pub going_done : s.due ≡ 0 → (after : List Lot) → length after ≡ length work → (after ≡ copy_within work i used s.kept) ⊎ ((s.kept ≡ i) × (after ≡ work)) → TakesFrom m a x used work₀ (taking_of s.due (s.kept + (used - i)) s.taken) after held
+    going_done over after long e =
+        let stays : take (s.kept + (used - i)) after ≡ left m a x whole =
+        moved_up after e ∙ ap (λ (y : List Lot). take s.kept work ++ y) (sym (rw over (left-none m a (rows_left used i work)))) ∙ g.stay in
+        let waits : take s.taken held ≡ taken m a x whole =
+        sym (append-nil (take s.taken held)) ∙ ap (λ (y : List Lot). take s.taken held ++ y) (sym (rw over (taken_none m a (rows_left used i work)))) ∙ g.wait in
+        comes s.due (s.kept + (used - i)) after long (omega (arith, g.few, g.upto)) stays waits
 
-      -- the rows left move up, and all is done
-      pub going_last : (after : List Lot) → length after ≡ length work → ClosesUp s.kept i used work after → TakesFrom m a x used work₀ (taking_of s.due (s.kept + (used - i)) s.taken) after held
-      going_last after len c =
-          let stays : take (s.kept + (used - i)) after ≡ left m a x whole = c.lots ∙ ap (λ (y : List Lot). take s.kept work ++ y) (sym rest_stays) ∙ g.stay in
-          let waits : take s.taken held ≡ taken m a x whole = sym (append-nil (take s.taken held)) ∙ ap (λ (y : List Lot). take s.taken held ++ y) (sym rest_none) ∙ g.wait in
-          record {
-            stay = stays;
-            wait = waits;
-            kept = sym (length-take-le (s.kept + (used - i)) after (omega (arith, len, rows, g.few, g.upto, can.room))) ∙ ap length stays;
-            taken = sym (length-take-le s.taken held (omega (arith, scratch, g.little, g.upto, can.scratch))) ∙ ap length waits;
-          }
-
--- ---- a gap that is closed
--- how far it is: row i moves up to row k next; the rows closed up and those left come to what is asked
-pub record Closing (to from used : ℕ) (work₀ : List Lot) (k i : ℕ) (work : List Lot) : Type 0 where
-  pub upto : i ≤ used
-  pub since : from ≤ i
-  pub even : k + from ≡ to + i
-  pub lots : take k work ++ rows_left used i work ≡ take to work₀ ++ rows_left used from work₀
-
-module _ (to from used : ℕ) (work₀ : List Lot) (can : CanClose to from used work₀) where
-  pub closing-first : Closing to from used work₀ to from work₀
-  closing-first = record { upto = can.within; since = omega arith; even = refl; lots = refl }
-
-  module _ (k i : ℕ) (work : List Lot) (g : Closing to from used work₀ k i work) (rows : length work ≡ length work₀) where
-    pub closing_on : i < used → (l : Lot) → l ≡ get_or work i no_lot → (work' : List Lot) → work' ≡ set work k l → Closing to from used work₀ (k + 1) (i + 1) work'
-    closing_on more l e work' f =
-        let before : k ≤ i = omega (arith, g.even, can.up) in
-        let rest : List Lot = rows_left used (i + 1) work in
-        let here : k < length work = omega (arith, rows, can.room) in
-        let later : drop (i + 1) work' ≡ drop (i + 1) work = ap (drop (i + 1)) f ∙ drop-set-lt (i + 1) work k l (omega arith) in
-        let stays : take (k + 1) work' ≡ take k work ++ (l ∷ []) = ap (take (k + 1)) f ∙ rw (add-one k) (take-suc-set work k l here) in
-        let first : l ∷ rest ≡ rows_left used i work = ap (λ (y : Lot). y ∷ rest) e ∙ sym (next_row used i work more (omega (arith, rows, can.room))) in
-        record {
-          upto = omega arith;
-          since = omega (arith, g.since);
-          even = omega (arith, g.even);
-          lots =
-              ap₂ (λ (y z : List Lot). y ++ take (used - (i + 1)) z) stays later
-              ∙ append_assoc (take k work) (l ∷ []) rest
-              ∙ ap (λ (y : List Lot). take k work ++ y) first
-              ∙ g.lots;
-        }
-
-    -- no row is left, or none has to move
-    pub closing-last : Holds (not (ltb i used && not (eqb k i))) → ClosesUp to from used work₀ work
-    closing-last over = record { lots = go (ltb i used) (eqb k i) refl refl over ∙ g.lots }
-      where
-        go : (p q : Bool) → ltb i used ≡ p → eqb k i ≡ q → Holds (not (p && not q)) → take (to + (used - from)) work ≡ take k work ++ rows_left used i work
-        go false q e f h =
-            let all : to + (used - from) ≡ k = omega (arith, ltb-false i used e, g.upto, g.even, can.within) in
-            rw (all, none_left used i work (ltb-false i used e)) (sym (append-nil (take k work)))
-        go true true e f h =
-            let same : k ≡ i = eqb-true k i f in
-            let all : to + (used - from) ≡ i + (used - i) = omega (arith, same, g.upto, g.even, can.within) in
-            rw (all, same) (take-add i (used - i) work)
-        go true false e f h = absurd h
+    -- no row is left
+    pub going_last : used ≤ i → TakesFrom m a x used work₀ s work held
+    unfolding left taken
+    going_last all =
+        let stays : take s.kept work ≡ left m a x whole = sym (append-nil (take s.kept work)) ∙ ap (λ (y : List Lot). take s.kept work ++ y) (sym (rw (none_left used i work all))) ∙ g.stay in
+        let waits : take s.taken held ≡ taken m a x whole = sym (append-nil (take s.taken held)) ∙ ap (λ (y : List Lot). take s.taken held ++ y) (sym (rw (none_left used i work all))) ∙ g.wait in
+        comes s.due s.kept work refl (omega (arith, g.few, g.upto)) stays waits
 
 -- ---- pieces that are handed out
 -- what is taken from a line is its owner's, so it joins a table of the owner's pieces as it is

@@ -1,5 +1,5 @@
 -- What the loops over a table of lots rest on and come to.
-use Rattle.std.specs.Prelude.{ℕ, ◌+◌, ◌-◌, ◌≤◌, ◌≡◌, Bool, true, false, not, cond, List, ◌++◌, leb, eqb, length, take, drop}
+use Rattle.std.specs.Prelude.{ℕ, ◌+◌, ◌-◌, ◌≤◌, ◌≡◌, Option, Some, None, not, cond, List, ◌++◌, leb, eqb, length, take}
 use Rattle.rules.specs.declared.rows.Lot.{Lot}
 use Rattle.rules.specs.Lots.{in_line, of_amount, taken, left}
 use Rattle.rules.specs.Answer.{in_front}
@@ -10,18 +10,18 @@ use Rattle.takings.specs.declared.work.Cut.{Cut}
 abbrev pub taking_of : ℕ → ℕ → ℕ → Taking
 taking_of due kept taken = record { due = due; kept = kept; taken = taken }
 
-abbrev pub cut_into : Lot → Lot → Taking → Bool → Bool → Cut
-cut_into piece rest next takes moves = record { piece = piece; rest = rest; next = next; takes = takes; moves = moves }
+abbrev pub cut_into : Option Lot → Option Lot → Taking → Cut
+cut_into piece rest next = record { piece = piece; rest = rest; next = next }
 
--- what becomes of the lot in row i: it stays, and moves unless that is its row, or is taken whole, or is split
+-- what becomes of the lot in row i: it stays, and is written again unless that is its row, or is taken whole, or is split
 abbrev pub cut_none : ℕ → Lot → Taking → Cut
-cut_none i l s = cut_into l l (taking_of s.due (s.kept + 1) s.taken) false (not (eqb s.kept i))
+cut_none i l s = cut_into None (cond (eqb s.kept i) None (Some l)) (taking_of s.due (s.kept + 1) s.taken)
 
 abbrev pub cut_whole : Lot → Taking → Cut
-cut_whole l s = cut_into l l (taking_of (s.due - l.amount) s.kept (s.taken + 1)) true false
+cut_whole l s = cut_into (Some l) None (taking_of (s.due - l.amount) s.kept (s.taken + 1))
 
 abbrev pub cut_in_two : Lot → Taking → Cut
-cut_in_two l s = cut_into (of_amount s.due l) (of_amount (l.amount - s.due) l) (taking_of 0 (s.kept + 1) (s.taken + 1)) true true
+cut_in_two l s = cut_into (Some (of_amount s.due l)) (Some (of_amount (l.amount - s.due) l)) (taking_of 0 (s.kept + 1) (s.taken + 1))
 
 unfoldable pub cut_of : ℕ → ℕ → ℕ → Lot → Taking → Cut
 cut_of m a i l s = cond (not (in_line m a l)) (cut_none i l s) (cond (leb l.amount s.due) (cut_whole l s) (cut_in_two l s))
@@ -38,16 +38,6 @@ pub record TakesFrom (m a x used : ℕ) (work : List Lot) (t : Taking) (after he
   pub wait : take t.taken held ≡ taken m a x (take used work)
   pub kept : t.kept ≡ length (left m a x (take used work))
   pub taken : t.taken ≡ length (taken m a x (take used work))
-
--- the rows between two are a gap that can be closed
-pub record CanClose (to from used : ℕ) (work : List Lot) : Type 0 where
-  pub up : to ≤ from
-  pub within : from ≤ used
-  pub room : used ≤ length work
-
--- the used rows after the gap stand behind those before it
-pub record ClosesUp (to from used : ℕ) (work after : List Lot) : Type 0 where
-  pub lots : take (to + (used - from)) after ≡ take to work ++ take (used - from) (drop from work)
 
 -- ---- lots that join the end: after the used rows, in this order. Every other row keeps what it had, and a lot for which there is no row is not written
 unfoldable pub appended : ℕ → List Lot → List Lot → List Lot

@@ -1,10 +1,9 @@
-// A taking from a line, and pieces that join the end. The loops only read a row, ask what becomes of
-// it, and append.
-ghost use Rattle.std.specs.Prelude.{◌≡◌, cond, [], ◌∷◌, map, ◌≤◌, ◌<◌, take};
+// A taking from a line, and pieces that join the end. The loops only read a row, ask what becomes of it, and append.
+ghost use Rattle.std.specs.Prelude.{◌≡◌, map, ◌<◌, take};
 ghost use Rattle.rules.specs.Lots.{of_member};
-ghost use Rattle.takings.specs.Working.{cut_of, cut_whole, cut_in_two, CanTake, TakesFrom, CanClose, ClosesUp, appended};
+ghost use Rattle.takings.specs.Working.{cut_of, CanTake, TakesFrom, appended};
 
-use crate::rows::{append, lot_at};
+use crate::rows::append;
 use rules::rows::Lot;
 
 // How far a taking from a line is: what is still due, how many rows stay so far, and how many pieces
@@ -16,92 +15,69 @@ pub struct Taking {
     pub taken: usize,
 }
 
-// What becomes of one lot: the piece of it that is taken, if any, and the rest that stays, if any; and
-// whether either has to be written.
+// What becomes of one lot: the piece of it that is taken, if any; the lot that has to be written among those that
+// stay, if any; and how far the taking is then.
 #[derive(Clone, Copy)]
 pub struct Cut {
-    pub piece: Lot,
-    pub rest: Lot,
+    pub piece: Option<Lot>,
+    pub rest: Option<Lot>,
     pub next: Taking,
-    pub takes: bool,
-    pub moves: bool,
 }
 
 // What becomes of the lot in row i, where something is still due: "until the amount is met; the last lot
 // is split if need be, its remainder staying in front". A lot that stays where it is needs no writing.
+#[tactic(auto, unfolding(crate::specs::Working::cut_of))]
 pub(crate) fn cut_lot(l: Lot, i: usize, member: u64, asset: u64, s: Taking) -> Cut
     requires kept_bound { s.kept < 1024 }
     requires taken_bound { s.taken < 1024 }
     ensures { result ≡ cut_of member asset i l s }
 {
-    let mine = (l.member == member) & (l.asset == asset);
-    if !mine {
+    if l.member != member || l.asset != asset {
         let next = Taking {
-            due: s.due,
             kept: s.kept + 1,
-            taken: s.taken,
+            ..s
         };
+        // A case of its own: where others' lots stand in front it is nearly every row.
+        if s.kept == i {
+            return Cut {
+                piece: None,
+                rest: None,
+                next,
+            };
+        }
         return Cut {
-            piece: l,
-            rest: l,
+            piece: None,
+            rest: Some(l),
             next,
-            takes: false,
-            moves: s.kept != i,
         };
     }
     if l.amount <= s.due {
-        return cut_whole(l, s);
+        return Cut {
+            piece: Some(l),
+            rest: None,
+            next: Taking {
+                due: s.due - l.amount,
+                taken: s.taken + 1,
+                ..s
+            },
+        };
     }
-    cut_in_two(l, s)
-}
-
-// The whole lot is taken.
-fn cut_whole(l: Lot, s: Taking) -> Cut
-    requires taken_bound { s.taken < 1024 }
-    requires amount_le_due { l.amount ≤ s.due }
-    ensures { result ≡ cut_whole l s }
-{
-    let next = Taking {
-        due: s.due - l.amount,
-        kept: s.kept,
-        taken: s.taken + 1,
-    };
-    Cut {
-        piece: l,
-        rest: l,
-        next,
-        takes: true,
-        moves: false,
-    }
-}
-
-// What is due is taken of the lot, and the remainder stays.
-fn cut_in_two(l: Lot, s: Taking) -> Cut
-    requires kept_bound { s.kept < 1024 }
-    requires taken_bound { s.taken < 1024 }
-    requires due_le_amount { s.due ≤ l.amount }
-    ensures { result ≡ cut_in_two l s }
-{
-    let next = Taking {
-        due: 0,
-        kept: s.kept + 1,
-        taken: s.taken + 1,
-    };
-    let mut piece = l;
-    piece.amount = s.due;
     let mut rest = l;
-    rest.amount = l.amount - s.due;
+    rest.amount -= s.due;
     Cut {
-        piece,
-        rest,
-        next,
-        takes: true,
-        moves: true,
+        piece: Some(Lot { amount: s.due, ..l }),
+        rest: Some(rest),
+        next: Taking {
+            due: 0,
+            kept: s.kept + 1,
+            taken: s.taken + 1,
+        },
     }
 }
 
-// "takes from the front of the sender's line until the amount is met": rows are looked at until nothing
-// is due. Those that stay close up in place, and the pieces wait in the held table, in the order taken.
+// "takes from the front of the sender's line until the amount is met": rows are looked at until nothing is due, and
+// those after them move up, if any has to. Those that stay close up in place, and the pieces wait in the held table,
+// in the order taken.
 pub fn take_from(
     work: &mut [Lot],
     used: usize,
@@ -118,46 +94,27 @@ pub fn take_from(
         kept: 0,
         taken: 0,
     };
-    let mut i: usize = 0;
-    while (i < used) & (s.due != 0) {
-        let l = lot_at(work, i);
-        let c = cut_lot(l, i, member, asset, s);
-        append_if(c.takes, held, s.taken, c.piece);
-        append_if(c.moves, work, s.kept, c.rest);
+    // a row is read and rows before it are written, so the loop goes by index
+    for i in 0..used {
+        if s.due == 0 {
+            if s.kept != i {
+                work.copy_within(i..used, s.kept);
+            }
+            return Taking {
+                kept: s.kept + (used - i),
+                ..s
+            };
+        }
+        let c = cut_lot(work[i], i, member, asset, s);
+        if let Some(piece) = c.piece {
+            append(held, s.taken, piece);
+        }
+        if let Some(rest) = c.rest {
+            append(work, s.kept, rest);
+        }
         s = c.next;
-        i += 1;
     }
-    close_up(work, s.kept, i, used);
-    Taking {
-        due: s.due,
-        kept: s.kept + (used - i),
-        taken: s.taken,
-    }
-}
-
-// A lot joins the end, if it has to be written.
-pub(crate) fn append_if(really: bool, lots: &mut [Lot], used: usize, l: Lot)
-    ensures { lots.new ≡ cond really (appended used (l ∷ []) lots.old) lots.old }
-{
-    if !really {
-        return;
-    }
-    append(lots, used, l);
-}
-
-// The rows from row `from` on move up to row `to`; where these are one row, none has to move.
-pub(crate) fn close_up(work: &mut [Lot], to: usize, from: usize, used: usize)
-    requires { CanClose to from used work.old }
-    ensures { ClosesUp to from used work.old work.new }
-{
-    let mut k = to;
-    let mut i = from;
-    while (i < used) & (k != i) {
-        let l = lot_at(work, i);
-        append(work, k, l);
-        k += 1;
-        i += 1;
-    }
+    s
 }
 
 // "the pieces join the receiver's line in the order taken": as many as are asked for and are there, each with its
@@ -165,13 +122,7 @@ pub(crate) fn close_up(work: &mut [Lot], to: usize, from: usize, used: usize)
 pub fn join(work: &mut [Lot], used: usize, held: &[Lot], count: usize, member: u64)
     ensures { work.new ≡ appended used (map (of_member member) (take count held.now)) work.old }
 {
-    let mut end = used;
-    let mut j: usize = 0;
-    while (j < count) & (j < held.len()) & (end < work.len()) {
-        let mut l = lot_at(held, j);
-        l.member = member;
-        append(work, end, l);
-        end += 1;
-        j += 1;
+    for (end, piece) in (used..work.len()).zip(held.iter().take(count)) {
+        append(work, end, Lot { member, ..*piece });
     }
 }

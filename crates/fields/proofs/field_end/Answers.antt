@@ -1,17 +1,16 @@
--- `field_end`: up to i no tab was met: the end is i and the end of what is left.
-use native.Mathlib.Omega.{arith}
-use Rattle.fields.proofs.FieldLaws.{end_here, end_later, end_none}
-use borrow.Author.Rules.{rules}
+-- `field_end`: the place of the first tab, and where there is none the part's length.
+use Rattle.std.specs.Option.{unwrap_or}
+use Rattle.std.specs.List.{position}
+use Rattle.std.proofs.Common.{◌≡◌, ◌∙◌, ap, length, rules, tests, Option, ℕ}
+use Rattle.std.proofs.lemmas.Iterator.{YieldsList-from_slice}
+use Rattle.std.proofs.lemmas.Iterator.Search.{position_from_yields_List}
+use lib.Dec.{eqb}
+use Rattle.rules.specs.Lines.{tab}
+use Rattle.fields.proofs.FieldLaws.{end_found}
 use Rattle.fields.proofs.field_end.Goals as goal
 
-pub loop-i-init : goal.loop-i-init
-loop-i-init c = (search rules, omega arith)
-
-pub returns-then-s-i-eq9 : goal.returns-then-s-i-eq9
-returns-then-s-i-eq9 c = omega (arith, end_here c.args.s.now c.loop-i.i c.loop-i-test.true c.if-s-i-eq9.true)
-
-pub loop-i-preserved : goal.loop-i-preserved
-loop-i-preserved c = omega (arith, end_later c.args.s.now c.loop-i.i c.loop-i-test.true c.if-s-i-eq9.false)
-
 pub returns : goal.returns
-returns c = omega (arith, end_none c.args.s.now c.loop-i.i c.loop-i-test.false)
+returns c =
+    let s = c.args.s.now in
+    let found : c.position.result ≡ position (λ b. eqb b tab) s = position_from_yields_List (λ b. eqb b tab) _ _ c.position.result c.position.ensures.ran (YieldsList-from_slice _ c.iter.ensures.rest) (λ x b q k. search (rules, tests)) in
+    c.unwrap_or.ensures ∙ ap (λ (o : Option ℕ). unwrap_or o (length s)) found ∙ end_found s

@@ -1,23 +1,13 @@
-use Prim.Native.Nat.{◌+◌, ◌-◌, ◌*◌}
-use mathlib.Core.Path.{◌≡◌, sym, ◌∙◌}
-use native.Mathlib.Omega.{arith}
-use borrow.Author.Rules.{rules}
+use mathlib.Core.Path.{◌∙◌}
+use Rattle.std.proofs.Common.{rules, tests}
+use Rattle.std.proofs.lemmas.Iterator.Search.{all_from_yields_List}
 use Rattle.rules.specs.Limits.{within}
-use Rattle.frames.proofs.Laws.{part_fails, part_goes, all_end}
+use Rattle.rules.specs.Lists.{all}
+use Rattle.frames.proofs.Eights.{all_eights, YieldsList-from_eights}
 use Rattle.frames.proofs.balances_in_frame.Goals as goal
-
-pub returns-then-not-all_within : goal.returns-then-not-all_within
-returns-then-not-all_within c =
-    let a = c.args in
-    sym (c.loop-m.invariant.1 ∙ part_fails (within 0 1000000000000000) a.b.now (c.loop-m.m * 8) (c.loop-m.m * 8 + 8 - c.loop-m.m * 8) (sym c.all_within.ensures ∙ c.if-not-all_within.true))
-
-pub loop-m-preserved : goal.loop-m-preserved
-loop-m-preserved c =
-    let a = c.args in
-    let e : c.loop-m.m * 8 + (c.loop-m.m * 8 + 8 - c.loop-m.m * 8) ≡ (c.loop-m.m + 1) * 8 = omega arith in
-    (search rules, c.loop-m.invariant.1 ∙ part_goes (within 0 1000000000000000) a.b.now (c.loop-m.m * 8) (c.loop-m.m * 8 + 8 - c.loop-m.m * 8) (sym c.all_within.ensures ∙ c.if-not-all_within.false) ∙ rw e)
 
 pub returns : goal.returns
 returns c =
-    let a = c.args in
-    sym (c.loop-m.invariant.1 ∙ all_end (within 0 1000000000000000) a.b.now (c.loop-m.m * 8) (omega arith))
+    let b = c.args.b.now in
+    all_from_yields_List (all (within 0 1000000000000000)) _ _ _ c.all.ensures.ran (YieldsList-from_eights 16 b c.chunks_exact.ensures.rest c.chunks_exact.ensures.size c.told-b) (λ x b q k. search (rules, tests))
+    ∙ all_eights (within 0 1000000000000000) 16 b c.told-b

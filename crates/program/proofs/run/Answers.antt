@@ -1,27 +1,24 @@
-use Rattle.std.proofs.Common.{ℕ, ◌≡◌, ◌<◌, arith, refl, subst, length, replicate}
-use Rattle.std.proofs.lemmas.List.{length-replicate}
-use Rattle.rules.specs.State.{empty_book}
+use Rattle.std.proofs.Common.{◌≡◌, [], replicate}
+use Rattle.rules.specs.declared.desk.Desk.{Desk}
+use Rattle.rules.specs.State.{desk_of, empty_state, empty_book}
+use Rattle.rules.specs.Answer.{book_of}
 use Rattle.runner.specs.Machine.{Machine, start}
-use Rattle.program.specs.Turns.{begun_machine, Session}
+use Rattle.program.specs.Turns.{Session}
 use Rattle.program.proofs.Turns.{session-transcript}
 use Rattle.program.proofs.run.Goals as goal
 
 -- tables of zeros are those of the empty book
-begins-start : begun_machine (replicate 256 0) (replicate 128 0) (replicate 5120 0) ≡ start
+begins : (d : Desk) {m : Machine} → d ≡ desk_of empty_state
+    → m ≡ record { book = book_of d (replicate 256 0) (replicate 128 0) (replicate 5120 0); tally = record { done = 0; other = 0 }; line = 1; held = [] } → m ≡ start
 unfolding start empty_book
-begins-start = refl
-
-abbrev z : ℕ
-z = 0
-
-some_room : 0 < length (replicate 65536 z)
-some_room = let l : length (replicate 65536 z) ≡ 65536 = length-replicate 65536 z in omega (arith, l)
+begins d e h = rw e at h
 
 pub returns : goal.returns
 returns g c =
     let had = g.R.Read.remaining c.args.reader.now in
-    let left = g.R.Read.remaining c.session.new.reader in
+    let left = g.R.Read.remaining c.answer_all-all.new.reader in
     let before = g.W.Write.contents c.args.writer.now in
-    let after = g.W.Write.contents c.session.new.writer in
-    let s : Session start had left before after c.session.result = subst (λ (m : Machine). Session m had left before after c.session.result) begins-start (c.session.ensures some_room) in
-    record { session = s; transcript = session-transcript had left before after c.session.result s }
+    let after = g.W.Write.contents c.answer_all-all.new.writer in
+    let begun = begins c.empty_desk-desk.result c.empty_desk-desk.ensures c.new-session.ensures in
+    let s : Session start had left before after c.is_ok.result = rw (c.is_ok.ensures.value, ← begun) c.answer_all-all.ensures in
+    record { session = s; transcript = session-transcript had left before after c.is_ok.result s }

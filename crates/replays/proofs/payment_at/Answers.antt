@@ -1,29 +1,22 @@
-use mathlib.Core.Path.{sym, ap, ◌∙◌}
-use mathlib.Core.Bool.{◌&&◌}
-use native.Mathlib.Omega.{arith}
-use lib.Dec.{eqb}
-use Rattle.rules.specs.declared.rows.Record.{Record}
-use Rattle.replays.proofs.Payments.{payment-none, payment-here, payment_goes, payment_end}
-use borrow.Author.Rules.{rules}
+use Rattle.std.proofs.Common.{◌∙◌, ℕ, Option, ap, sym, rules, tests, arith}
+use Rattle.std.specs.Option.{unwrap_or}
+use Rattle.std.proofs.lemmas.Option.{unwrap_or-slice_get}
+use Rattle.std.proofs.lemmas.Iterator.{YieldsList-from_range}
+use Rattle.std.proofs.lemmas.Iterator.Adapters.{option_map_id}
+use Rattle.std.proofs.lemmas.Iterator.Consumers.{nth_from_yields_List, YieldsList-from_filter}
+use Rattle.rules.specs.Tables.{record_shape}
+use Rattle.rules.specs.History.{is_withdrawal}
+use Rattle.tables.specs.Rows.{row_at}
+use Rattle.replays.proofs.Payments.{paying, payment-nth}
 use Rattle.replays.proofs.payment_at.Goals as goal
 
-pub loop-i-init : goal.loop-i-init
-loop-i-init c = (search rules, payment-none _ _ _)
-
-pub returns-then-pays-left : goal.returns-then-pays-left
-returns-then-pays-left c =
-    let l = c.loop-i in
-    let a = c.args in
-    payment-here a.history.now a.records a.n l.left l.i (omega arith) l.invariant.1 (ap (λ (r : Record). eqb r.kind 3 && eqb l.left 0) (sym c.record_at-r.ensures) ∙ c.if-pays-left.true)
-
-pub loop-i-preserved : goal.loop-i-preserved
-loop-i-preserved c =
-    let l = c.loop-i in
-    let a = c.args in
-    (search rules, rw (c.one_less-left.ensures, c.record_at-r.ensures) (payment_goes a.history.now a.records a.n l.left l.i (omega arith) l.invariant.1 (ap (λ (r : Record). eqb r.kind 3 && eqb l.left 0) (sym c.record_at-r.ensures) ∙ c.if-pays-left.false)))
-
+-- the withdrawals among the rows are passed over one by one, and the next one is the payment's
 pub returns : goal.returns
 returns c =
-    let l = c.loop-i in
     let a = c.args in
-    payment_end a.history.now a.records a.n l.left l.i (omega arith) l.invariant.1
+    let nth = nth_from_yields_List c.nth.result c.nth.new.self a.n c.nth.ensures.ran
+    (YieldsList-from_filter _ (λ j. is_withdrawal (row_at record_shape j a.history.now)) (YieldsList-from_range 0 a.records a.records c.filter.ensures.source (omega arith)) c.filter.ensures.closure (λ x r q k. search (rules, tests))) in
+    c.unwrap_or.ensures
+    ∙ ap (λ (o : Option ℕ). unwrap_or o a.records) (sym (option_map_id c.nth.result) ∙ nth)
+    ∙ unwrap_or-slice_get (paying a.history.now a.records 0 a.records) a.n a.records
+    ∙ payment-nth a.history.now a.records a.n

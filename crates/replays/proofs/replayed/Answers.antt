@@ -1,37 +1,36 @@
-use mathlib.Core.Path.{refl}
-use native.Mathlib.Omega.{arith}
-use Rattle.records.proofs.KindNumbers.{is_claim_lem, is_transfer, is_withdrawal_lem, is_grant, is_other_lem}
+use mathlib.Core.Path.{refl, sym, ap, ◌∙◌}
+use Rattle.std.specs.Prelude.{Ok}
 use Rattle.replays.proofs.Replaying.{replays-claim, replays-transfer, replays-withdrawal, replays-grant, replays-other}
 use Rattle.replays.proofs.replayed.Goals as goal
 
 -- a claim's lot joins the end
-pub returns-in-1 : goal.returns-in-1
-returns-in-1 c =
+pub returns-in-Ok-Claim : goal.returns-in-Ok-Claim
+returns-in-Ok-Claim c =
     let a = c.args in
-    replays-claim a.r a.used a.work.now a.held.now c.requires (is_claim_lem a.r c.in-1.is) c.append.new.lots c.append.ensures
+    replays-claim a.r a.used a.work.now a.held.now c.requires (sym c.in-Ok-Claim.ensures ∙ ap Ok c.in-Ok-Claim.field-0-is) c.append.new.lots c.append.ensures
 
 -- of a transfer the pieces join the receiver's line
-pub returns-in-2 : goal.returns-in-2
-returns-in-2 c =
+pub returns-in-Ok-Transfer : goal.returns-in-Ok-Transfer
+returns-in-Ok-Transfer c =
     let a = c.args in
     let s = c.take_from-t in
-    replays-transfer a.r a.used a.work.now a.held.now c.requires s.result s.new.work s.new.held s.auto.work s.ensures (is_transfer a.r c.in-2.is) c.join.new.work c.join.ensures
+    replays-transfer a.r a.used a.work.now a.held.now c.requires s.result s.new.work s.new.held s.auto.work s.ensures (sym c.in-Ok-Transfer.ensures ∙ ap Ok c.in-Ok-Transfer.field-0-is) c.join.new.work c.join.ensures
 
 -- a withdrawal's leave
-pub returns-in-3 : goal.returns-in-3
-returns-in-3 c =
+pub returns-in-Ok-Withdrawal : goal.returns-in-Ok-Withdrawal
+returns-in-Ok-Withdrawal c =
     let a = c.args in
-    let s = c.take_from-t-in-3 in
-    replays-withdrawal a.r a.used a.work.now a.held.now c.requires s.result s.new.work s.new.held s.auto.work s.ensures (is_withdrawal_lem a.r c.in-3.is) s.new.work refl
+    let s = c.take_from in
+    replays-withdrawal a.r a.used a.work.now a.held.now c.requires s.result s.new.work s.new.held s.auto.work s.ensures (sym c.in-Ok-Withdrawal.ensures ∙ ap Ok c.in-Ok-Withdrawal.field-0-is) s.new.work refl
 
 -- a grant moves none
-pub returns-in-4 : goal.returns-in-4
-returns-in-4 c =
+pub returns-in-Ok-Grant : goal.returns-in-Ok-Grant
+returns-in-Ok-Grant c =
     let a = c.args in
-    replays-grant a.r a.used a.work.now a.held.now c.requires (is_grant a.r c.in-4.is)
+    replays-grant a.r a.used a.work.now a.held.now c.requires (sym c.in-Ok-Grant.ensures ∙ ap Ok c.in-Ok-Grant.field-0-is)
 
 -- nor does any other
-pub returns-in_default : goal.returns-in_default
-returns-in_default c =
+pub returns-in-Err : goal.returns-in-Err
+returns-in-Err c =
     let a = c.args in
-    replays-other a.r a.used a.work.now a.held.now c.requires (is_other_lem a.r (λ e. omega arith) (λ e. omega arith) (λ e. omega arith) (λ e. omega arith))
+    replays-other a.r a.used a.work.now a.held.now c.requires (sym c.in-Err.ensures)

@@ -3,7 +3,8 @@ use mathlib.Core.List.{[], ◌∷◌, ◌++◌}
 use Rattle.rules.specs.Lists.{bytes}
 use Rattle.rules.specs.Lines.{line_feed, tabbed}
 use Rattle.rules.specs.Transcript.{end_text}
-use Rattle.pages.proofs.PageLaws.{put_then, put-values}
+use Rattle.pages.proofs.PageLaws.{put_then}
+use Rattle.replies.proofs.ReplyLaws.{put_more_values}
 use Rattle.replies.proofs.put_end.Goals as goal
 
 pub returns : goal.returns
@@ -11,5 +12,5 @@ unfolding bytes end_text
 returns c =
     let t = c.args.t in
     put_then _ (bytes "end" ++ tabbed (t.done ∷ t.other ∷ [])) (line_feed ∷ [])
-    (put_then _ (bytes "end") (tabbed (t.done ∷ t.other ∷ [])) c.put_bytes-p.ensures (put-values _ (t.done ∷ []) (t.other ∷ []) c.put_value-p.ensures c.put_value-p-2.ensures))
+    (put_then _ (bytes "end") (tabbed (t.done ∷ t.other ∷ [])) c.put_bytes.ensures (put_more_values _ t.done (t.other ∷ []) c.put_value.ensures c.put_value-2.ensures))
     c.put_line_feed.ensures

@@ -1,12 +1,9 @@
-use Prim.Native.Nat.{◌-◌, ◌≤◌}
 use mathlib.Core.Path.{◌≡◌}
-use Rattle.pages.specs.Writing.{page, put}
+use lib.ListN.{take}
+use Rattle.pages.specs.Writing.{put}
 use Rattle.steps.proofs.Pages.{pieces_text}
 use Rattle.steps.proofs.traced.put_pieces.Given as goal
 
--- the pieces before row i are written
-abbrev pub invariant-loop-i : goal.invariant-loop-i
-invariant-loop-i l = record { upto : l.i ≤ l.n; text : page l.out l.p ≡ put (page l.initial.out l.at) (pieces_text l.i l.pieces) }
-
-abbrev pub decreases-loop-i : goal.decreases-loop-i
-decreases-loop-i l = l.n - l.i
+-- the pieces so far are written
+abbrev pub invariant-loop-piece : goal.invariant-loop-piece
+invariant-loop-piece l = l.page ≡ put l.initial.page (pieces_text (take l.piece-index l.handed))

@@ -1,35 +1,28 @@
-use Rattle.std.proofs.Common.{◌∙◌, ◌<◌, ◌∷◌, [], length, sym, ap₂, List, ℕ, arith}
-use borrow.Author.Tests.{ltb-true}
+use Rattle.std.proofs.Common.{◌≡◌, ◌∙◌, ◌≤◌, ◌<◌, List, ℕ, length, map, take, sym, ap₂, inl, inr, arith}
+use mathlib.Core.Logic.{◌⊎◌}
 use Rattle.rules.specs.declared.rows.Lot.{Lot}
 use Rattle.rules.specs.Lots.{of_member}
-use Rattle.rules.proofs.Tests.{both}
 use Rattle.takings.specs.Working.{appended}
-use Rattle.takings.proofs.Appending.{appended-none, joined_more, joined_end}
+use Rattle.takings.proofs.Appending.{joined_more, joined_end}
 use Rattle.takings.proofs.work.join.Goals as goal
 
-pub loop-j-init : goal.loop-j-init
-loop-j-init c = record { upto = omega arith; there = omega arith; behind = omega arith; so_far = sym (appended-none c.args.used c.args.work.now) }
-
--- piece j joins those before it
-pub loop-j-preserved : goal.loop-j-preserved
-loop-j-preserved c =
-    let (asked, room) = both _ _ c.loop-j-test.true in
-    let (wanted, held) = both _ _ asked in
-    let more : c.loop-j.j < c.args.count = ltb-true c.loop-j.j c.args.count wanted in
-    let here : c.loop-j.j < length c.args.held.now = ltb-true c.loop-j.j (length c.args.held.now) held in
-    let free : c.loop-j.end < length c.loop-j.work = ltb-true c.loop-j.end (length c.loop-j.work) room in
+-- the next piece joins
+pub loop-end-preserved : goal.loop-end-preserved
+loop-end-preserved c =
+    let i = c.loop-end.end-iterator in
+    let (s, z) = c.in-Some.ensures.steps in
+    let (_, r) = s in
     record {
-      upto = omega arith;
-      there = omega arith;
-      behind = omega arith;
-      so_far =
-          c.append.ensures
-          ∙ ap₂ (λ (n : ℕ) (ws : List Lot). appended n (of_member c.args.member c.lot_at-l.result ∷ []) ws) c.loop-j.invariant.behind c.loop-j.invariant.so_far
-          ∙ joined_more c.args.member c.args.used c.args.held.now c.args.work.now c.loop-j.j here (omega arith) c.lot_at-l.result c.lot_at-l.ensures;
+      all = cc;
+      comes = rw (r.2, c.append.ensures, r.1)
+          (
+          joined_more c.args.member i.a.start c.next.new.self.b.n c.in-Some.piece.now c.next.new.self.b.iter.rest.now c.loop-end.work (omega (arith, r.0, c.loop-end.invariant.all))
+          ∙ ap₂ (λ (k : ℕ) (ps : List Lot). appended i.a.start (map (of_member c.args.member) (take k ps)) c.loop-end.work) z.1 (sym z.0)
+          ∙ c.loop-end.invariant.comes
+          );
     }
 
 pub returns : goal.returns
 returns c =
-    c.loop-j.invariant.so_far
-    ∙ joined_end c.args.member c.args.used c.args.held.now c.args.work.now c.args.count c.loop-j.j c.loop-j.invariant.upto c.loop-j.invariant.there
-    (rw (← c.loop-j.invariant.behind, ← c.loop-j.auto.work, c.loop-j-test.false) tt)
+    let over : (length c.loop-end.work ≤ c.loop-end.end-iterator.a.start) ⊎ (0 < c.loop-end.end-iterator.b.n → length c.loop-end.end-iterator.b.iter.rest.now ≡ 0) = elim c.in-None.ensures.steps [ inl p ↦ inl (omega (arith, p.1.1.0, c.loop-end.invariant.all)) | inr p ↦ inr (λ h. (p.1 h).0) ] in
+    sym (joined_end c.args.member c.loop-end.end-iterator.a.start c.loop-end.end-iterator.b.n c.loop-end.end-iterator.b.iter.rest.now c.loop-end.work over) ∙ c.loop-end.invariant.comes

@@ -1,17 +1,44 @@
-use borrow.Author.Tests.{ltb-true, not-true}
-use Rattle.rules.proofs.Tests.{both}
-use Rattle.takings.proofs.Passing.{going_on, going_last}
+use Rattle.rules.specs.Lots.{no_lot}
+use Rattle.std.proofs.Common.{get_or, refl, ◌≡◌, ◌∙◌, Option, ap, sym, arith}
+use mathlib.Core.Logic.{◌⊎◌, inl, inr}
+use Rattle.std.specs.List.{copy_within}
+use borrow.Author.Tests.{ne_eqb}
+use Rattle.rules.specs.declared.rows.Lot.{Lot}
+use Rattle.takings.proofs.Passing.{written, going_first, going_on, going_done, going_last}
 use Rattle.takings.proofs.work.take_from.Goals as goal
+use Rattle.takings.proofs.work.take_from.Goals.{in-Some, in_default, in-Some-rest, in_default-rest, then-s-i, else-s-i}
+
+pub loop-i-init : goal.loop-i-init
+loop-i-init c = going_first c.args.member c.args.asset c.args.amount c.args.used c.args.work.now c.args.held.now c.requires
 
 -- one turn: a row read, asked and written
 pub loop-i-preserved : goal.loop-i-preserved
 loop-i-preserved c =
-    let (more, due) = both _ _ c.loop-i-test.true in
-    going_on c.args.member c.args.asset c.args.amount c.args.used c.args.work.now c.args.held.now c.requires c.loop-i.i c.loop-i.s c.loop-i.work c.loop-i.held c.loop-i.invariant c.loop-i.auto.work c.loop-i.auto.held
-    (ltb-true c.loop-i.i c.args.used more) (not-true _ due) c.lot_at-l.result c.lot_at-l.ensures c.cut_lot-c.result c.cut_lot-c.ensures c.append_if.new.lots c.append_if-in-loop-i.new.lots c.append_if.ensures c.append_if-in-loop-i.ensures
+    let a = c.args in
+    let l = c.loop-i in
+    let r = c.cut_lot-c.result in
+    let hs : c.match-c.held ≡ written r.piece l.s.taken l.held = elim c.match-c.branch [
+      | in-Some w ↦ w.held-is ∙ w.append.ensures ∙ ap (λ (o : Option Lot). written o l.s.taken l.held) (sym w.in-Some.is)
+      | in_default w ↦ w.held-is ∙ ap (λ (o : Option Lot). written o l.s.taken l.held) (sym w.in_default.is)
+    ] in
+    let ws : c.match-c-2.work ≡ written r.rest l.s.kept l.work = elim c.match-c-2.branch [
+      | in-Some-rest w ↦ w.work-is ∙ w.append-in-Some-rest.ensures ∙ ap (λ (o : Option Lot). written o l.s.kept l.work) (sym w.in-Some-rest.is)
+      | in_default-rest w ↦ w.work-is ∙ ap (λ (o : Option Lot). written o l.s.kept l.work) (sym w.in_default-rest.is)
+    ] in
+    going_on a.member a.asset a.amount a.used a.work.now a.held.now c.requires l.i l.s l.work l.held l.invariant l.auto.work l.auto.held
+    (omega arith) (ne_eqb l.s.due 0 c.if-s-eq0.false) (get_or l.work l.i no_lot) refl r c.cut_lot-c.ensures c.match-c.held c.match-c-2.work hs ws
 
--- the rows left move up, and all is done
+-- nothing is due any more, and the rows left move up
+pub returns-then-s-eq0 : goal.returns-then-s-eq0
+returns-then-s-eq0 c =
+    let a = c.args in
+    let l = c.loop-i in
+    let up : (c.if-s-i.work ≡ copy_within l.work l.i a.used l.s.kept) ⊎ ((l.s.kept ≡ l.i) × (c.if-s-i.work ≡ l.work)) = elim c.if-s-i.branch [ then-s-i w ↦ inl (w.work-is ∙ w.copy_within.ensures.after) | else-s-i w ↦ inr (omega arith, w.work-is) ] in
+    going_done a.member a.asset a.amount a.used a.work.now a.held.now c.requires l.i l.s l.work l.held l.invariant l.auto.work l.auto.held c.if-s-eq0.true c.if-s-i.work c.if-s-i.auto.work up
+
+-- every row was looked at
 pub returns : goal.returns
 returns c =
-    going_last c.args.member c.args.asset c.args.amount c.args.used c.args.work.now c.args.held.now c.requires c.loop-i.i c.loop-i.s c.loop-i.work c.loop-i.held c.loop-i.invariant c.loop-i.auto.work c.loop-i.auto.held
-    (rw c.loop-i-test.false tt) c.close_up.new.work c.close_up.auto.work c.close_up.ensures
+    let a = c.args in
+    let l = c.loop-i in
+    going_last a.member a.asset a.amount a.used a.work.now a.held.now c.requires l.i l.s l.work l.held l.invariant l.auto.work l.auto.held (omega arith)

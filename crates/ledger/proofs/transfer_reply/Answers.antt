@@ -1,8 +1,0 @@
-use Rattle.ledger.proofs.Laws.{transfer-told}
-use Rattle.ledger.proofs.transfer_reply.Goals as goal
-
-pub returns : goal.returns
-returns c =
-    let a = c.args in
-    rw (c.refuse.ensures, c.is_member-2.ensures, c.is_member.ensures, c.refuse-r-5.ensures, c.is_asset.ensures, c.refuse-r-4.ensures, c.is_amount.ensures, c.refuse-r-3.ensures, c.refuse-r-2.ensures, c.balance_of.ensures, c.refuse-r.ensures)
-    (transfer-told a.balances.now a.records a.t)

@@ -1,0 +1,13 @@
+use Rattle.std.proofs.Common.{◌≤◌, length}
+use Rattle.program.proofs.Turns.{FrontFed}
+use Rattle.program.proofs.Answering.answer.Given as goal
+
+abbrev pub invariant-loop-rest : goal.invariant-loop-rest
+invariant-loop-rest g l =
+    record {
+      room : 45000 ≤ length l.self-inside.page.bytes;
+      so_far : FrontFed l.fn.self l.self-inside.session (g.W.Write.contents l.initial.writer) (g.W.Write.contents l.writer) l.chunk l.rest;
+    }
+
+abbrev pub decreases-loop-rest : goal.decreases-loop-rest
+decreases-loop-rest g l = length l.rest
