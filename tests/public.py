@@ -3,8 +3,8 @@
 
     python3 tests/public.py
 
-Every public function of a library stands in the list once and has an `ensures`; every function that is
-listed is there; the lemma that says that any two allowed results coincide stands in its crate's
+Every public function and method of a library, and every method of a public trait, stands in the list once and
+has an `ensures`; every function that is listed is there; the lemma that says that any two allowed results coincide stands in its crate's
 proofs/Once.antt, over the contract that the checker makes of that function, and a lemma that leaves
 something open is one of those that docs/DECISIONS.md lists; every must-fail edit that is named is there,
 and every edit is named. A dash stands for an exception, which docs/DECISIONS.md explains. The last line is
@@ -29,15 +29,24 @@ def public_modules(crate):
     return ["lib"] + re.findall(r"^pub mod (\w+);", lib, re.M)
 
 
+def blocks_of(source):
+    """The parts of a file whose functions are public: the file itself, each `impl` of a type, each public trait."""
+    yield None, "pub fn", source
+    for found in re.finditer(r"^impl(?:<[^>]*>)? (\w+)(?:<[^>]*>)? \{$(.*?)^\}$", source, re.M | re.S):
+        yield found[1], "    pub fn", found[2]
+    for found in re.finditer(r"^pub trait (\w+)[^{]*\{$(.*?)^\}$", source, re.M | re.S):
+        yield found[1], "    fn", found[2]
+
+
 def functions_of(crate):
     """Each public function of a library, with whether a contract on its result follows."""
     for module in public_modules(crate):
         source = text(CRATES, crate, "src", module + ".rt")
-        for found in re.finditer(r"^pub fn (\w+)", source, re.M):
-            head = source[found.start():source.index("\n{", found.start())] if "\n{" in source[found.start():] else source[found.start():]
-            brace = source[found.start():].split("\n", 1)[0].rstrip().endswith("{")
-            name = "::".join([crate] + ([] if module == "lib" else [module]) + [found.group(1)])
-            yield name, not brace and bool(re.search(r"\bensures (\w+ )?\{", head))
+        for owner, opens, part in blocks_of(source):
+            for found in re.finditer(rf"^{opens} (\w+)", part, re.M):
+                head = re.split(r"\n *\{\n|;\n|\) *(?:-> [^\n]*)?\{\n", part[found.start():])[0]
+                names = [crate] + ([] if module == "lib" else [module]) + ([owner] if owner else []) + [found[1]]
+                yield "::".join(names), bool(re.search(r"\bensures (\w+ )?\{", head))
 
 
 def libraries():
@@ -58,11 +67,12 @@ def form_of(name, lemma):
     once = text(CRATES, crate, "proofs", "Once.antt")
     own = re.search(rf"^use Rattle\.{crate}\.specs\.contracts\.{path.replace('::', '.')} as (\S+)$", once, re.M)
     if own and "\nuse Rattle.rules.specs.Coincide.{" in once:
-        contract = f"{own[1]}.ended (λ M 𝓤 𝓛. {own[1]}.clauses 𝓛)"
-        if f"\npub {lemma} : Coincide {contract}\n" in once:
-            return "Coincide"
-        if f"\npub {lemma} : AnyTwo {contract} " in once:
-            return "AnyTwo"
+        name = re.escape(own[1])
+        # a generic function's contract is held at every type: the lemma names its parameters
+        for form in ("Coincide", "AnyTwo"):
+            contract = rf"\(?{name}\.ended[^()]*\)? \(λ M 𝓤 𝓛\. {name}\.clauses[^()]* 𝓛\)"
+            if re.search(rf"^ *pub {lemma} : {form} {contract}{'$' if form == 'Coincide' else ' '}", once, re.M):
+                return form
     return None
 
 

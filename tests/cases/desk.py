@@ -111,7 +111,6 @@ CASES = [
     ("a holder 17", [(DESK, HOLDER + 7, 17)]),
 ]
 
-WORDS = ["deposit", "claim", "transfer", "withdraw", "send", "settle", "grant", "sign"]
 CALLS = [
     ("deposit", 7, 3, 5, 4), ("deposit", 7, 3, 5, 17), ("deposit", 7, 9, 5, 4), ("deposit", 7, 3, 0, 4),
     ("deposit", 6, 3, 5, 4), ("deposit", 8, 3, 5, 4), ("deposit", 2 ** 64 - 1, 3, 5, 4),
@@ -126,6 +125,60 @@ CALLS = [
     ("grant", 2, 3, 5), ("grant", 1, 3, 5), ("grant", 2, 2, 5), ("grant", 2, 17, 5), ("grant", 2, 3, 9),
     ("sign", 2, 5), ("sign", 1, 5), ("sign", 17, 5), ("sign", 2, 0),
 ]
+
+
+HEAD = """// Made by tests/cases/desk.py: the books and the calls.
+use rules::calls::{Call, ClaimFields, GrantFields, SignFields, TransferFields, WithdrawalFields};
+use rules::rows::{Deposit, DepositNumber, Nonce};
+
+// What an edit changes: a number of one of the desk's lists, of its counters and counts or of a table, or how many
+// numbers of a table are lent.
+#[derive(Clone, Copy, PartialEq, Eq)]
+pub enum Part {
+    Balances,
+    Holders,
+    Lifetime,
+    Settled,
+    Counts,
+    Inbox,
+    Outbox,
+    History,
+    InboxSize,
+    OutboxSize,
+    HistorySize,
+}
+
+pub type Edit = (u64, Part, usize, u64);
+
+"""
+TABLES = {INBOX: "Inbox", OUTBOX: "Outbox", HISTORY: "History"}
+LISTS = [(0, "Balances"), (HOLDER, "Holders"), (LIFETIME, "Lifetime"), (SETTLED, "Settled"), (LAST, "Counts")]
+FORMS = {
+    "deposit": "Call::Deposit(Deposit {{ number: DepositNumber({}), asset: {}, amount: {}, member: {} }})",
+    "claim": "Call::Claim(ClaimFields {{ member: {}, number: DepositNumber({}), asset: {}, amount: {} }})",
+    "transfer": "Call::Transfer(TransferFields {{ from: {}, to: {}, asset: {}, amount: {} }})",
+    "withdraw": "Call::Withdraw(WithdrawalFields {{ member: {}, asset: {}, amount: {}, payee: {} }})",
+    "send": "Call::Send",
+    "settle": "Call::Settle(Nonce({}))",
+    "grant": "Call::Grant(GrantFields {{ from: {}, to: {}, domain: {} }})",
+    "sign": "Call::Sign(SignFields {{ member: {}, domain: {} }})",
+}
+
+
+def call_text(call):
+    return FORMS[call[0]].format(*call[1:])
+
+
+def edit_text(edit):
+    book, table, at, value = edit
+    if table == SIZE:
+        part, place = TABLES[at] + "Size", 0
+    elif table == DESK:
+        begin, part = [entry for entry in LISTS if entry[0] <= at][-1]
+        place = at - begin
+    else:
+        part, place = TABLES[table], at
+    return f"({book}, Part::{part}, {place}, {value})"
 
 
 def built(edits):
@@ -168,14 +221,12 @@ def called(edits, call):
 
 def main():
     edits = [(0, *e) for e in SAMPLE] + [(k, *e) for k, (_n, es) in enumerate(CASES, 1) for e in es]
-    calls = [(0,) * 5] + [(WORDS.index(c[0]) + 1, *c[1:], *[0] * (5 - len(c))) for c in CALLS]
     with open(os.path.join(CRATE, "src", "data.rt"), "w") as out:
-        out.write("// Made by tests/cases/desk.py: the books and the calls.\n\n")
-        out.write(f"pub const BOOKS: u64 = {len(CASES)};\n\npub const CALL_COUNT: usize = {len(CALLS)};\n\n")
-        out.write("// The calls, from 1 on: kind and four numbers each.\n")
-        out.write(f"pub const CALLS: [u64; {5 * len(calls)}] = [{', '.join(str(n) for c in calls for n in c)}];\n\n")
-        out.write("// The edits that make the books: book (0: all of them), table, place and number each.\n")
-        out.write(f"pub const EDITS: [u64; {4 * len(edits)}] = [{', '.join(str(n) for e in edits for n in e)}];\n")
+        out.write(HEAD)
+        out.write(f"pub const BOOKS: u64 = {len(CASES)};\n\n// The calls.\n")
+        out.write(f"pub static CALLS: [Call; {len(CALLS)}] = [{', '.join(call_text(c) for c in CALLS)}];\n\n")
+        out.write("// The edits that make the books: book (0: all of them), part, place and number each.\n")
+        out.write(f"pub static EDITS: [Edit; {len(edits)}] = [{', '.join(edit_text(e) for e in edits)}];\n")
     with open(os.path.join(CRATE, "stdout"), "w") as out:
         replies = {}
         for k, (_name, es) in enumerate(CASES, 1):
@@ -183,7 +234,7 @@ def main():
                 reply, after, then = called(es, call)
                 replies.setdefault(call[0], set()).add(reply)
                 out.write(f"{k}\t{c}\t{reply}\t{after}\t{then}\n")
-    for word in WORDS:
+    for word in FORMS:
         print(word, sorted(replies[word]))
 
 

@@ -88,6 +88,36 @@ QUESTIONS = [(2, 3), (4, 3), (17, 3), (2, 9)]
 NONCES = [0, 1, 255, 2 ** 64 - 1]
 
 
+HEAD = """// Made by tests/cases/history.py: the cases.
+
+// The rules by which a history is made.
+#[derive(Clone, Copy, PartialEq, Eq)]
+pub enum Rule {
+    // 400 lots go back and forth whole, 600 times, and then pay.
+    Whole,
+    // Two members pay each other back and forth, splitting as they go.
+    Split,
+    // One of each kind.
+    Each,
+    // All members and assets.
+    Everyone,
+    // No record at all.
+    Nothing,
+}
+
+// A history, the place of a number of it that is changed, that number, and how many rows the work table and the
+// pieces table have.
+pub type Case = (Rule, usize, u64, usize, usize);
+
+"""
+RULES = {1: "Whole", 2: "Split", 3: "Each", 4: "Everyone", 5: "Nothing"}
+
+
+def case_text(case):
+    history, place, value, work_rows, piece_rows = case
+    return f"(Rule::{RULES[history]}, {place}, {value}, {work_rows}, {piece_rows})"
+
+
 def digest(table):
     total = 0
     for value in table:
@@ -118,11 +148,8 @@ def main():
         table = [n for i in range(1024) for n in record(history, i)]
         assert history_fault(FlatBook(history=table, history_count=RECORDS[history])) is None, history
     with open(os.path.join(CRATE, "src", "data.rt"), "w") as out:
-        out.write("// Made by tests/cases/history.py: the cases.\n\n")
-        out.write(f"pub const CASE_COUNT: usize = {len(CASES)};\n\n")
-        out.write("// History, changed place, its number, rows of the work table, rows of the pieces table.\n")
-        flat = [n for c in CASES for n in c]
-        out.write(f"pub const CASES: [u64; {len(flat)}] = [{', '.join(map(str, flat))}];\n")
+        out.write(HEAD)
+        out.write(f"pub static CASES: [Case; {len(CASES)}] = [{', '.join(case_text(c) for c in CASES)}];\n")
     replies = set()
     with open(os.path.join(CRATE, "stdout"), "w") as out:
         for k, case in enumerate(CASES):

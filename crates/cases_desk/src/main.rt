@@ -6,326 +6,162 @@
 
 mod data;
 
-ghost use Rattle.std.specs.Prelude.{◌≤◌, ◌<◌, length};
+ghost use Rattle.std.specs.Prelude.{◌<◌};
 
-use data::{BOOKS, CALL_COUNT, CALLS, EDITS};
-use rules::answers::Answered;
-use rules::calls::{ClaimFields, GrantFields, SignFields, TransferFields, WithdrawalFields};
+use data::{BOOKS, CALLS, EDITS, Part};
+use rules::answers::{Answer, Done, Refusal};
+use rules::book::BookView;
+use rules::calls::{Call, SignFields};
 use rules::desk::{Counts, Desk};
 use rules::limits::{
     DEPOSIT_WIDTH, HISTORY_SIZE, INBOX_SIZE, OUTBOX_SIZE, PAYMENT_WIDTH, RECORD_WIDTH,
 };
-use rules::rows::{Deposit, DepositNumber, Nonce};
+use rules::rows::{DepositNumber, Nonce};
 use std::io;
 
 fn main(rt: HostRuntime) -> io::Result<()> {
     for book in 1..=BOOKS {
-        all_calls(&rt, book)?;
-    }
-    Ok(())
-}
-
-fn all_calls(rt: &impl Print, book: u64) -> io::Result<()> {
-    for call in 1..=CALL_COUNT {
-        one(rt, book, call)?;
+        for (k, call) in CALLS.iter().enumerate() {
+            print!(rt; "{book}\t{}", k + 1)?;
+            one(&rt, book, *call)?;
+        }
     }
     Ok(())
 }
 
 // One call on one book, which is made anew for it.
-fn one(rt: &impl Print, book: u64, call: usize) -> io::Result<()> {
+fn one(rt: &impl Print, book: u64, call: Call) -> io::Result<()> {
     let mut inbox = [0u64; INBOX_SIZE + DEPOSIT_WIDTH];
     let mut outbox = [0u64; OUTBOX_SIZE + PAYMENT_WIDTH];
     let mut history = [0u64; HISTORY_SIZE + RECORD_WIDTH];
-    with_tables(rt, book, call, &mut inbox, &mut outbox, &mut history)
-}
-
-fn with_tables(
-    rt: &impl Print,
-    book: u64,
-    call: usize,
-    inbox: &mut [u64],
-    outbox: &mut [u64],
-    history: &mut [u64],
-) -> io::Result<()> {
-    edit(book, 1, inbox);
-    edit(book, 2, outbox);
-    edit(book, 3, history);
-    let i = size(book, 1, INBOX_SIZE, inbox);
-    let o = size(book, 2, OUTBOX_SIZE, outbox);
-    let h = size(book, 3, HISTORY_SIZE, history);
-    let d = desk(book);
-    let r = asked(
-        d,
+    edit(book, Part::Inbox, &mut inbox);
+    edit(book, Part::Outbox, &mut outbox);
+    edit(book, Part::History, &mut history);
+    let mut desk = desk(book);
+    let i = size(book, Part::InboxSize, INBOX_SIZE).min(inbox.len());
+    let o = size(book, Part::OutboxSize, OUTBOX_SIZE).min(outbox.len());
+    let h = size(book, Part::HistorySize, HISTORY_SIZE).min(history.len());
+    let answer = called(
+        &mut desk,
         &mut inbox[..i],
         &mut outbox[..o],
         &mut history[..h],
         call,
     );
-    let after = r.desk;
-    let sum = digest(digest(digest(desk_digest(after), inbox), outbox), history);
-    report(rt, book, call, r.number, sum, r.then)
+    let then = signed(&desk, &inbox[..i], &outbox[..o], &history[..h]);
+    let sum = digest(
+        digest(digest(desk_digest(&desk), &inbox), &outbox),
+        &history,
+    );
+    println!(rt;
+        "\t{}\t{sum}\t{}",
+        replies::reply_number(answer),
+        replies::reply_number(then)
+    )
 }
 
-#[derive(Clone, Copy)]
-struct Replies {
-    number: u64,
-    then: u64,
-    desk: Desk,
-}
-
-// The call, and then a sign request.
-fn asked(
-    d: Desk,
-    inbox: &mut [u64],
-    outbox: &mut [u64],
-    history: &mut [u64],
-    call: usize,
-) -> Replies {
-    let r = called(d, inbox, outbox, history, call);
-    let after = r.desk;
-    let answer = r.answer;
+// A sign request.
+fn signed(desk: &Desk, inbox: &[u64], outbox: &[u64], history: &[u64]) -> Answer {
+    let book = BookView {
+        desk,
+        inbox,
+        outbox,
+        history,
+    };
     let sign = SignFields {
         member: 2,
         domain: 5,
     };
-    let s = ledger::sign(after, inbox, outbox, history, sign);
-    let next = s.answer;
-    Replies {
-        number: replies::reply_number(answer),
-        then: replies::reply_number(next),
-        desk: after,
-    }
-}
-
-fn report(
-    rt: &impl Print,
-    book: u64,
-    call: usize,
-    number: u64,
-    sum: u64,
-    then: u64,
-) -> io::Result<()> {
-    print!(rt; "{book}")?;
-    value(rt, call as u64)?;
-    value(rt, number)?;
-    value(rt, sum)?;
-    value(rt, then)?;
-    println!(rt; "")
-}
-
-fn value(rt: &impl Print, n: u64) -> io::Result<()> {
-    print!(rt; "\t{n}")
+    plain(ledger::sign(&book, sign))
 }
 
 // ---- the books
-// Number k of the edits; past the last there is none, so 0.
-fn edit_number(k: usize) -> u64 {
-    if k < EDITS.len() { EDITS[k] } else { 0 }
-}
-
-// Whether edit e is for this book and this table.
-fn is_for(e: usize, book: u64, table: u64) -> bool
-    requires { e < 4096 }
-{
-    let b = edit_number(e * 4);
-    ((b == 0) | (b == book)) & (edit_number(e * 4 + 1) == table)
-}
-
-// The edits of this book to one of its tables.
-fn edit(book: u64, table: u64, t: &mut [u64]) {
-    let mut e: usize = 0;
-    while e < 1024 {
-        edit_one(book, table, t, e);
-        e += 1;
+// The edits of this book to one of its parts.
+fn edit(book: u64, part: Part, t: &mut [u64]) {
+    for (of, to, place, number) in &EDITS {
+        let is_for = (*of == 0 || *of == book) && *to == part;
+        if is_for && *place < t.len() {
+            t[*place] = *number;
+        }
     }
 }
 
-fn edit_one(book: u64, table: u64, t: &mut [u64], e: usize)
-    requires { e < 1024 }
-{
-    if !is_for(e, book, table) {
-        return;
-    }
-    let at = edit_number(e * 4 + 2) as usize;
-    if at < t.len() {
-        t[at] = edit_number(e * 4 + 3);
-    }
-}
-
-// How many numbers of the table are lent: as many as it should have, unless an edit says otherwise.
-fn size(book: u64, table: u64, usual: usize, t: &[u64]) -> usize
-    ensures { result ≤ length t.now }
-{
-    let mut n = least(usual, t.len());
-    let mut e: usize = 0;
-    while e < 1024 {
-        n = size_by(book, table, n, t.len(), e);
-        e += 1;
+// How many numbers of a table are lent: as many as it should have, unless an edit says otherwise.
+fn size(book: u64, part: Part, usual: usize) -> usize {
+    let mut n = usual;
+    for (of, to, _, number) in &EDITS {
+        if *of == book && *to == part {
+            n = *number as usize;
+        }
     }
     n
-}
-
-fn size_by(book: u64, table: u64, n: usize, most: usize, e: usize) -> usize
-    requires n_le_most { n ≤ most }
-    requires e_bound { e < 1024 }
-    ensures { result ≤ most }
-{
-    if is_for(e, book, 4) & (edit_number(e * 4 + 2) == table) {
-        return least(edit_number(e * 4 + 3) as usize, most);
-    }
-    n
-}
-
-fn least(a: usize, b: usize) -> usize
-    ensures { result ≤ b }
-{
-    if a < b { a } else { b }
 }
 
 // The desk of a book.
 fn desk(book: u64) -> Desk {
-    let mut numbers = [0u64; 158];
-    edit(book, 0, &mut numbers);
-    let mut balances = [0u64; 128];
-    copy(&numbers, 0, &mut balances);
-    let mut holders = [0u64; 8];
-    copy(&numbers, 128, &mut holders);
-    let mut lifetime = [0u64; 8];
-    copy(&numbers, 136, &mut lifetime);
-    let mut settled = [0u64; 8];
-    copy(&numbers, 144, &mut settled);
-    let last = DepositNumber(numbers[152]);
-    let next = Nonce(numbers[153]);
-    let counts = Counts {
-        last,
-        next,
-        unclaimed: numbers[154] as usize,
-        payments: numbers[155] as usize,
-        inflight: numbers[156] as usize,
-        records: numbers[157] as usize,
-    };
+    let mut balances = [0; 128];
+    edit(book, Part::Balances, &mut balances);
+    let mut holders = [0; 8];
+    edit(book, Part::Holders, &mut holders);
+    let mut lifetime = [0; 8];
+    edit(book, Part::Lifetime, &mut lifetime);
+    let mut settled = [0; 8];
+    edit(book, Part::Settled, &mut settled);
     Desk {
         balances,
         holders,
         lifetime,
         settled,
-        counts,
+        counts: counts(book),
     }
 }
 
-fn copy(from: &[u64], at: usize, to: &mut [u64]) {
-    let mut k: usize = 0;
-    while k < to.len() {
-        copy_one(from, at, to, k);
-        k += 1;
-    }
-}
-
-fn copy_one(from: &[u64], at: usize, to: &mut [u64], k: usize)
-    requires { k < length to.old }
-{
-    if from.len() <= at {
-        return;
-    }
-    if k < from.len() - at {
-        to[k] = from[at + k];
+fn counts(book: u64) -> Counts {
+    let mut numbers = [0; 6];
+    edit(book, Part::Counts, &mut numbers);
+    let [last, next, unclaimed, payments, inflight, records] = numbers;
+    Counts {
+        last: DepositNumber(last),
+        next: Nonce(next),
+        unclaimed: unclaimed as usize,
+        payments: payments as usize,
+        inflight: inflight as usize,
+        records: records as usize,
     }
 }
 
 // ---- the calls
-fn call_number(k: usize) -> u64 {
-    if k < CALLS.len() { CALLS[k] } else { 0 }
-}
-
 fn called(
-    d: Desk,
+    desk: &mut Desk,
     inbox: &mut [u64],
     outbox: &mut [u64],
     history: &mut [u64],
-    call: usize,
-) -> Answered {
-    let c = least(call, 1000) * 5;
-    let kind = call_number(c);
-    let a = call_number(c + 1);
-    let b = call_number(c + 2);
-    let x = call_number(c + 3);
-    let y = call_number(c + 4);
-    let number = DepositNumber(if kind == 1 { a } else { b });
-    let nonce = Nonce(a);
-    match kind {
-        1 => inbox::deposit(
-            d,
-            inbox,
-            outbox,
-            history,
-            Deposit {
-                number,
-                asset: b,
-                amount: x,
-                member: y,
+    call: Call,
+) -> Answer {
+    match call {
+        Call::Deposit(x) => plain(inbox::deposit(desk, inbox, outbox, history, x)),
+        Call::Claim(x) => plain(inbox::claim(desk, inbox, outbox, history, x)),
+        Call::Transfer(x) => plain(ledger::transfer(desk, inbox, outbox, history, x)),
+        Call::Withdraw(x) => plain(outbox::withdraw(desk, inbox, outbox, history, x)),
+        Call::Send => outbox::send(desk, inbox, outbox, history).map(Done::Sent),
+        Call::Settle(n) => plain(outbox::settle(desk, inbox, outbox, history, n)),
+        Call::Grant(x) => plain(ledger::grant(desk, inbox, outbox, history, x)),
+        Call::Sign(x) => plain(ledger::sign(
+            &BookView {
+                desk,
+                inbox,
+                outbox,
+                history,
             },
-        ),
-        2 => inbox::claim(
-            d,
-            inbox,
-            outbox,
-            history,
-            ClaimFields {
-                member: a,
-                number,
-                asset: x,
-                amount: y,
-            },
-        ),
-        3 => ledger::transfer(
-            d,
-            inbox,
-            outbox,
-            history,
-            TransferFields {
-                from: a,
-                to: b,
-                asset: x,
-                amount: y,
-            },
-        ),
-        4 => outbox::withdraw(
-            d,
-            inbox,
-            outbox,
-            history,
-            WithdrawalFields {
-                member: a,
-                asset: b,
-                amount: x,
-                payee: y,
-            },
-        ),
-        5 => outbox::send(d, inbox, outbox, history),
-        6 => outbox::settle(d, inbox, outbox, history, nonce),
-        7 => ledger::grant(
-            d,
-            inbox,
-            outbox,
-            history,
-            GrantFields {
-                from: a,
-                to: b,
-                domain: x,
-            },
-        ),
-        _ => ledger::sign(
-            d,
-            inbox,
-            outbox,
-            history,
-            SignFields {
-                member: a,
-                domain: b,
-            },
-        ),
+            x,
+        )),
+        Call::Trace(_) => Ok(Done::Plain),
     }
+}
+
+// The answer of a call that gives nothing beside its number.
+fn plain(found: Result<(), Refusal>) -> Answer {
+    found.map(|()| Done::Plain)
 }
 
 // ---- the digest
@@ -333,31 +169,25 @@ fn digest(so_far: u64, t: &[u64]) -> u64
     ensures { result < 1000003 }
 {
     let mut sum = so_far % 1000003;
-    let mut k: usize = 0;
-    while k < t.len() {
-        sum = (sum * 31 + t[k] % 1000003) % 1000003;
-        k += 1;
+    for n in t {
+        sum = (sum * 31 + *n % 1000003) % 1000003;
     }
     sum
 }
 
-fn desk_digest(d: Desk) -> u64 {
-    let counts = d.counts;
-    let last = counts.last;
-    let next = counts.next;
+fn desk_digest(desk: &Desk) -> u64 {
+    let counts = desk.counts;
     let numbers = [
-        last.0,
-        next.0,
+        counts.last.0,
+        counts.next.0,
         counts.unclaimed as u64,
         counts.payments as u64,
         counts.inflight as u64,
         counts.records as u64,
     ];
+    let lists = digest(digest(0, &desk.balances), &desk.holders);
     digest(
-        digest(
-            digest(digest(digest(0, &d.balances), &d.holders), &d.lifetime),
-            &d.settled,
-        ),
+        digest(digest(lists, &desk.lifetime), &desk.settled),
         &numbers,
     )
 }

@@ -1,8 +1,8 @@
-use Rattle.std.proofs.Common.{◌-◌, ◌≤◌, ◌<◌, length}
+use Rattle.std.proofs.Common.{◌<◌}
 use Rattle.cases_history.proofs.digest.Given as goal
 
-abbrev pub invariant-loop-k : goal.invariant-loop-k
-invariant-loop-k l = record { within : l.k ≤ length l.t; small : l.sum < 1000003 }
+abbrev pub invariant-loop-l : goal.invariant-loop-l
+invariant-loop-l l = l.sum < 1000003
 
-abbrev pub decreases-loop-k : goal.decreases-loop-k
-decreases-loop-k l = length l.t - l.k
+abbrev pub invariant-loop-n : goal.invariant-loop-n
+invariant-loop-n l = l.sum < 1000003
