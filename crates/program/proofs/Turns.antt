@@ -20,6 +20,10 @@ unfolding put put_byte
 put_keeps p [] = refl
 put_keeps p (b ∷ bs) = put_keeps (put_byte p b) bs ∙ length-set p.bytes p.upto b
 
+-- so a page that is begun anew and written keeps its room
+pub room_keeps : (bytes : List ℕ) (begun q : Page) (text : List ℕ) {n : ℕ} → begun ≡ page bytes 0 → q ≡ put begun text → n ≤ length bytes → n ≤ length q.bytes
+room_keeps bytes begun q text c e h = rw (e, put_keeps begun text, c) h
+
 -- and a text that begins a page is what stands on it
 pub page_text : (p : Page) {bytes text shown : List ℕ} → p ≡ page bytes 0 → shown ≡ take p.upto p.bytes ++ text → shown ≡ text
 page_text p e h = rw e at h

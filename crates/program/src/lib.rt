@@ -34,14 +34,17 @@ pub fn run<E: Eprint, R: io::Read, W: io::Write>(rt: &E, reader: &mut R, writer:
     let mut history = [0; HISTORY_SIZE];
     let mut input = [0; PAGE_SIZE];
     let mut out = [0; PAGE_SIZE];
-    let session = session::Session::new(Book {
+    let book = Book {
         desk: &mut desk,
         inbox: &mut inbox,
         outbox: &mut outbox,
         history: &mut history,
-    });
-    let page = Page::new(&mut out, 0);
-    let mut answering = Answering { session, page };
+    };
+    let mut answering = Answering {
+        session: session::Session::new(),
+        book,
+        page: Page::new(&mut out, 0),
+    };
     let all = answering.answer_all(reader, writer, &mut input);
     if let Err(failed) = &all {
         let _ = eprintln!(rt; "{failed}");
@@ -65,23 +68,26 @@ impl fmt::Display for Failed {
     }
 }
 
-// A session, and the page that each write takes its text from. A clause sees the session's machine; the page has
+// A session, its book, and the page that each write takes its text from. A clause sees the session's machine; the page has
 // room for the longest reply (`runner::feed::LONGEST_REPLY`).
 #[derive(Drop)]
 struct Answering<'a> {
-    session: session::Session<'a>,
+    session: session::Session,
+    book: Book<'a>,
     page: Page<'a>,
 }
 
 impl<'a> Model for Answering<'a> {
     ghost use Rattle.std.specs.Prelude.{◌≤◌, length};
-    ghost use Rattle.runner.specs.Machine.{Machine};
+    ghost use Rattle.rules.specs.Lent.{lent_book};
+    ghost use Rattle.pages.specs.Lent.{page_of};
+    ghost use Rattle.runner.specs.Machine.{Machine, machine_with};
 
     ghost Value = { Machine };
 
-    ghost view = { λ a. a.session };
+    ghost view = { λ a. machine_with a.session (lent_book a.book) };
 
-    ghost invariant = { λ a. 45000 ≤ length a.page.bytes };
+    ghost invariant = { λ a. 45000 ≤ length (page_of a.page).bytes };
 }
 
 impl<'a> Answering<'a> {
@@ -126,7 +132,7 @@ impl<'a> Answering<'a> {
     // A read may be answered with more than a page holds: it is fed in parts, and each page written before
     // the next. Every byte of the read is fed, once and in order, unless a write fails. After 100,000 lines there
     // is no other turn. How much of the rest a page takes is known only after it, so no `for` counts the parts.
-    #[tactic(auto, using(crate::proofs::Turns::put_keeps, crate::proofs::Turns::page_text, crate::proofs::Turns::front_begun, crate::proofs::Turns::front_fed))]
+    #[tactic(auto, using(crate::proofs::Turns::front_begun))]
     fn answer<W: io::Write>(
         &mut self,
         writer: &mut W,
@@ -139,7 +145,7 @@ impl<'a> Answering<'a> {
         let mut rest = chunk;
         while !rest.is_empty() {
             self.page.clear();
-            let n = run_some(&mut self.session, &mut self.page, rest);
+            let n = run_some(&mut self.session, &mut self.book, &mut self.page, rest);
             write_all(writer, self.page.written()).map_err(Failed::Write)?;
             rest = &rest[n..];
         }
@@ -150,7 +156,6 @@ impl<'a> Answering<'a> {
     }
 
     // The end of the input, answered and written.
-    #[tactic(auto, using(crate::proofs::Turns::put_keeps))]
     fn finish<W: io::Write>(&mut self, writer: &mut W) -> Result<(), Failed>
         ensures { Wrote (W.contents writer.old) (W.contents writer.new) (closing self.old) (is_ok result) }
     {

@@ -9,7 +9,7 @@ use Rattle.rules.specs.Transcript.{InputLine, input_lines, read_input, transcrip
 use Rattle.rules.specs.Answer.{answer, book_of, outcome_of, trace_answer}
 use Rattle.history.specs.Tracing.{trace_outcome_of}
 use Rattle.pages.specs.Writing.{page}
-use Rattle.runner.specs.Machine.{Machine, Counted, start, feeds}
+use Rattle.runner.specs.Machine.{Machine, Counted, machine_with, start, feeds}
 use Rattle.runner.specs.Kept.{Kept, on_page, RunSome}
 
 -- ---- the calls of an input
@@ -39,12 +39,12 @@ after input = feeds start input
 abbrev pub Beginning : List ℕ → List ℕ → Type 0
 Beginning input text = (more : List ℕ) → take (length text) (transcript (input ++ more)) ≡ text
 
--- ---- the book runner as code, by its contracts (crate runner, specs/Kept). What it keeps is a session, which a contract sees as a machine, and a page
--- a new session of a book: the contract of `Session::new`
+-- ---- the book runner as code, by its contracts (crate runner, specs/Kept). What it keeps is a session and its book, which a contract sees together as a machine, and a page
+-- a new session, as the contract of `Session::new` has it, beside its book
 abbrev pub opened : Book → Machine
-opened b = record { book = b; tally = record { done = 0; other = 0 }; line = 1; held = [] }
+opened b = machine_with (record { tally = record { done = 0; other = 0 }; line = 1; held = [] }) b
 
--- the beginning: the desk that `empty_desk` hands back, by its contract, and tables of zeros; a new session of this book; and any page on which nothing is written
+-- the beginning: the desk that `empty_desk` hands back, by its contract, and tables of zeros; a new session beside this book; and any page on which nothing is written
 pub record Begun (k : Kept) : Type 0 where
   pub desk : Desk
   pub empty : desk ≡ desk_of empty_state

@@ -15,6 +15,6 @@ second_read = bytes "sit\t1\t3\t500\t2\nsend\ncl"
 abbrev pub last_read : List ℕ
 last_read = bytes "aim"
 
--- what the code keeps where it stands for this machine: the session, and a page of 100 bytes that begins with this text. The code itself takes a line only with 45,000 bytes free; the contract leaves open how far it comes, so this page is small for the sake of computing
+-- what the code keeps where it stands for this machine: the session, its book, and a page of 100 bytes that begins with this text. The code itself takes a line only with 45,000 bytes free; the contract leaves open how far it comes, so this page is small for the sake of computing
 unfoldable pub kept_as : Machine → List ℕ → Kept
 kept_as m text = record { machine = m; page = page (text ++ replicate (100 - length text) 0) (length text) }

@@ -6,6 +6,7 @@ ghost use Rattle.rules.specs.Replies.{told_refusal, number_of, told};
 ghost use Rattle.rules.specs.Lines.{decimal, tabbed};
 ghost use Rattle.rules.specs.Transcript.{piece_values, end_text};
 ghost use Rattle.pages.specs.Writing.{put};
+ghost use Rattle.pages.specs.Lent.{page_of, SameBuffer};
 ghost use Rattle.replies.specs.Writing.{reply_start, reply_line};
 
 use pages::Page;
@@ -15,7 +16,8 @@ use rules::rows::{Lot, Payment};
 // "For each line it writes line number and reply number."
 #[tactic(auto, using(pages::proofs::PageLaws::put_then))]
 pub fn put_reply(page: &mut Page, line: u64, reply: u64)
-    ensures { page.new ≡ put page.old (decimal line ++ tabbed (reply ∷ [])) }
+    ensures written { page_of page.new ≡ put (page_of page.old) (decimal line ++ tabbed (reply ∷ [])) }
+    ensures lent { SameBuffer page.old page.new }
 {
     page.put_decimal(line);
     page.put_value(reply);
@@ -24,7 +26,8 @@ pub fn put_reply(page: &mut Page, line: u64, reply: u64)
 // "After a Done send also nonce, asset, amount, payee."
 #[tactic(auto, using(crate::proofs::ReplyLaws::put_more_values))]
 fn put_payment(page: &mut Page, x: Payment)
-    ensures { page.new ≡ put page.old (tabbed (x.nonce.0 ∷ x.asset ∷ x.amount ∷ x.payee ∷ [])) }
+    ensures written { page_of page.new ≡ put (page_of page.old) (tabbed (x.nonce.0 ∷ x.asset ∷ x.amount ∷ x.payee ∷ [])) }
+    ensures lent { SameBuffer page.old page.new }
 {
     page.put_value(x.nonce.0);
     page.put_value(x.asset);
@@ -35,7 +38,8 @@ fn put_payment(page: &mut Page, x: Payment)
 // "Deposit number and amount for each piece."
 #[tactic(auto, using(crate::proofs::ReplyLaws::put_more_values))]
 pub fn put_piece(page: &mut Page, x: Lot)
-    ensures { page.new ≡ put page.old (tabbed (piece_values x)) }
+    ensures written { page_of page.new ≡ put (page_of page.old) (tabbed (piece_values x)) }
+    ensures lent { SameBuffer page.old page.new }
 {
     page.put_value(x.number.0);
     page.put_value(x.amount);
@@ -44,7 +48,8 @@ pub fn put_piece(page: &mut Page, x: Lot)
 // A reply's line up to its pieces: line number, reply number, and the values that the answer tells.
 #[tactic(auto, using(crate::proofs::ReplyLaws::start_written), unfolding(rules::specs::Replies::told, rules::specs::Lines::tabbed, rules::specs::Lists::joined, pages::specs::Writing::put))]
 pub fn put_answer(page: &mut Page, line: u64, a: Answer)
-    ensures { page.new ≡ put page.old (reply_start line (told a)) }
+    ensures written { page_of page.new ≡ put (page_of page.old) (reply_start line (told a)) }
+    ensures lent { SameBuffer page.old page.new }
 {
     put_reply(page, line, reply_number(a));
     match a {
@@ -58,7 +63,8 @@ pub fn put_answer(page: &mut Page, line: u64, a: Answer)
 // "The runner adds the field number after reply 1."
 #[tactic(auto, using(crate::proofs::ReplyLaws::no_field), unfolding(rules::specs::Replies::told_refusal))]
 fn put_field(page: &mut Page, why: Refusal)
-    ensures { page.new ≡ put page.old (tabbed (told_refusal why).values) }
+    ensures written { page_of page.new ≡ put (page_of page.old) (tabbed (told_refusal why).values) }
+    ensures lent { SameBuffer page.old page.new }
 {
     if let Refusal::Malformed(k) = why {
         page.put_value(k);
@@ -68,7 +74,8 @@ fn put_field(page: &mut Page, why: Refusal)
 // The whole line of an answer without pieces.
 #[tactic(auto, using(pages::proofs::PageLaws::put_then), unfolding(crate::specs::Writing::reply_line))]
 pub fn put_reply_line(page: &mut Page, line: u64, a: Answer)
-    ensures { page.new ≡ put page.old (reply_line line (told a)) }
+    ensures written { page_of page.new ≡ put (page_of page.old) (reply_line line (told a)) }
+    ensures lent { SameBuffer page.old page.new }
 {
     put_answer(page, line, a);
     page.put_line_feed();
@@ -76,7 +83,8 @@ pub fn put_reply_line(page: &mut Page, line: u64, a: Answer)
 
 // "Last comes `end`, the number of replies 0 and of other replies."
 pub fn put_end(page: &mut Page, t: Tally)
-    ensures { page.new ≡ put page.old (end_text t) }
+    ensures written { page_of page.new ≡ put (page_of page.old) (end_text t) }
+    ensures lent { SameBuffer page.old page.new }
 {
     page.put_bytes(b"end");
     page.put_value(t.done);

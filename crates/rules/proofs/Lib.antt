@@ -12,3 +12,4 @@ pub mod Accepts
 pub mod Told
 pub mod Books
 pub mod Coincide
+pub mod Lent

@@ -5,6 +5,7 @@ pub mod Lists
 pub mod Limits
 pub mod Tables
 pub mod State
+pub mod Lent
 pub mod Replies
 pub mod Refusals
 pub mod Effects

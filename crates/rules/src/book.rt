@@ -1,8 +1,9 @@
-// A book: the desk and the three tables, lent together. A clause sees either of the two as the definitions' book.
+// A book: the desk and the three tables, lent together.
 use crate::desk::Desk;
 use std::marker::Model;
 
-// A book that is lent to be changed.
+// A book that is lent to be changed. Who is lent it says what it holds afterwards (`lent_book`), and that the desk and the
+// tables are still those that were lent (`SameTables`): so whoever lent them finds there what is said of the book.
 #[derive(Drop)]
 pub struct Book<'a> {
     pub desk: &'a mut Desk,
@@ -11,15 +12,7 @@ pub struct Book<'a> {
     pub history: &'a mut [u64],
 }
 
-impl<'a> Model for Book<'a> {
-    ghost use Rattle.rules.specs.State.{Book};
-
-    ghost Value = { Book };
-
-    ghost view = { λ b. record { desk = b.desk.now; inbox = b.inbox.now; outbox = b.outbox.now; history = b.history.now } };
-}
-
-// A book that is lent to be read.
+// A book that is lent to be read. A clause sees it as the definitions' book.
 #[derive(Drop)]
 pub struct BookView<'a> {
     pub desk: &'a Desk,

@@ -1,9 +1,13 @@
 -- What the program keeps from one call of the code to the next, and the contracts of `run_some` and `close`.
 use Rattle.std.specs.Prelude.{ℕ, ◌≤◌, ◌≡◌, cond, List, [], ◌++◌, length, take}
 use Rattle.rules.specs.declared.answers.Tally.{Tally}
+use Rattle.rules.specs.declared.book.Book.{Book as LentBook}
 use Rattle.rules.specs.State.{Book}
+use Rattle.rules.specs.Lent.{lent_book}
+use Rattle.pages.specs.declared.Page.{Page as LentPage}
 use Rattle.pages.specs.Writing.{Page, put}
-use Rattle.runner.specs.Machine.{Machine, stopped, feeds, writes, unfinished_text, at_end, closing}
+use Rattle.pages.specs.Lent.{page_of}
+use Rattle.runner.specs.Machine.{Machine, Progress, machine_with, stopped, feeds, writes, unfinished_text, at_end, closing}
 use Rattle.runner.specs.Feeding.{Moves}
 
 -- the session, as the machine that it stands for, and the page of output
@@ -13,6 +17,10 @@ pub record Kept : Type 0 where
 
 abbrev pub kept : Machine → Page → Kept
 kept m p = record { machine = m; page = p }
+
+-- the same, of a session and what is lent with it
+abbrev pub kept_of : Progress → LentBook → LentPage → Kept
+kept_of s b p = kept (machine_with s (lent_book b)) (page_of p)
 
 -- the book that lies in the desk and the tables
 abbrev pub book_in : Kept → Book

@@ -15,6 +15,16 @@ pub record Machine : Type 0 where
   pub line : ℕ
   pub held : List ℕ
 
+-- what a session keeps beside its book
+pub record Progress : Type 0 where
+  pub tally : Tally
+  pub line : ℕ
+  pub held : List ℕ
+
+-- the machine of a session and its book
+abbrev pub machine_with : Progress → Book → Machine
+machine_with s b = record { book = b; tally = s.tally; line = s.line; held = s.held }
+
 -- no count has passed the lines that were answered, so none can wrap
 pub record Counted (tally : Tally) (line : ℕ) : Type 0 where
   pub done : tally.done < line

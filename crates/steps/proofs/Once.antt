@@ -1,10 +1,13 @@
 -- Any two results that a public function's contract allows coincide (`Coincide` of `rules`).
 use Prim.Native.Nat.{ℕ}
-use mathlib.Core.Path.{◌≡◌, refl, sym, ap, ◌∙◌}
-use Rattle.rules.specs.Coincide.{Coincide}
+use mathlib.Core.Path.{◌≡◌, sym, ap, ◌∙◌}
+use Rattle.rules.specs.Coincide.{Coincide, AnyTwo}
 use Rattle.rules.specs.State.{Book}
-use Rattle.rules.proofs.Coincide.{one, joined, from_each, both, first}
+use Rattle.rules.specs.Lent.{SameBook}
+use Rattle.rules.proofs.Coincide.{one, joined, from_each, first}
+use Rattle.rules.proofs.Lent.{same_tables}
 use Rattle.pages.specs.Writing.{Page}
+use Rattle.pages.specs.Lent.{SamePage}
 use Rattle.steps.specs.Step.{Replied, replied_of}
 use Rattle.steps.specs.contracts.tally.raise as raise
 use Rattle.steps.specs.contracts.step.step as step
@@ -19,12 +22,15 @@ stepped_once y e f =
     let s = e ∙ sym f in
     (ap (λ (z : Replied). z.number) s, ap (λ (z : Replied). z.book) s, ap (λ (z : Replied). z.text) s)
 
-pub step_once : Coincide step.ended (λ M 𝓤 𝓛. step.clauses 𝓛)
-step_once w x g = both w (λ p q. let s = stepped_once _ p q in (s.0, λ j. (s.1 j, (s.2 j, (tt, (tt, tt))))))
+pub step_once : AnyTwo step.ended (λ M 𝓤 𝓛. step.clauses 𝓛) (λ x. (x.result ≡ x.result') × SameBook x.left.0 x.left'.0 × SamePage x.left.1.0 x.left'.1.0)
+step_once w x g =
+    from_each w (joined w (one w) (joined w (one w) (one w))) (joined w (one w) (joined w (one w) (one w))) (λ p q.
+    let s = stepped_once _ p.0 q.0 in
+    (s.0, (s.1, same_tables p.1.0 q.1.0), (s.2, q.1.1 ∙ sym p.1.1)))
 
 -- ---- counted_step: the book, the page and the tally
-pub counted_step_once : Coincide counted-step.ended (λ M 𝓤 𝓛. counted-step.clauses 𝓛)
+pub counted_step_once : AnyTwo counted-step.ended (λ M 𝓤 𝓛. counted-step.clauses 𝓛) (λ x. SameBook x.left.0 x.left'.0 × SamePage x.left.1.0 x.left'.1.0 × (x.left.1.1.1.0 ≡ x.left'.1.1.1.0))
 counted_step_once w x g =
-    from_each w (joined w (one w) (one w)) (joined w (one w) (one w)) (λ p q.
+    from_each w (joined w (one w) (joined w (one w) (joined w (one w) (one w)))) (joined w (one w) (joined w (one w) (joined w (one w) (one w)))) (λ p q.
     let s = stepped_once _ p.0 q.0 in
-    (refl, λ j. (s.1 j, (s.2 j, (tt, ((p.1 ∙ sym q.1) j, (tt, tt)))))))
+    ((s.1, same_tables p.1.0 q.1.0), (s.2, q.1.1.0 ∙ sym p.1.1.0), p.1.1.1 ∙ sym q.1.1.1))

@@ -4,7 +4,9 @@ ghost use Rattle.rules.specs.Facts.{Accepted};
 ghost use Rattle.rules.specs.Replies.{told, plainly, plain};
 ghost use Rattle.rules.specs.Answer.{answer, outcome_of, reply_number};
 ghost use Rattle.rules.specs.Transcript.{tallied};
+ghost use Rattle.rules.specs.Lent.{lent_book, SameTables};
 ghost use Rattle.pages.specs.Writing.{put};
+ghost use Rattle.pages.specs.Lent.{page_of, SameBuffer};
 ghost use Rattle.replies.specs.Writing.{reply_line};
 ghost use Rattle.steps.specs.Step.{is_trace, replied_of, replied};
 
@@ -20,7 +22,9 @@ use rules::calls::Call;
 // "A read line is one of nine calls": what refuses it is asked first, and where nothing does it is done. The reply's
 // number.
 pub fn step(book: &mut Book, page: &mut Page, line: u64, c: Call) -> u64
-    ensures { replied_of result book.new page.new ≡ replied line page.old (answer book.old c) }
+    ensures replied { replied_of result (lent_book book.new) (page_of page.new) ≡ replied line (page_of page.old) (answer (lent_book book.old) c) }
+    ensures tables { SameTables book.old book.new }
+    ensures buffer { SameBuffer page.old page.new }
 {
     match reply_of(book, c) {
         Err(why) => put_answered(page, line, Err(why)),
@@ -30,7 +34,7 @@ pub fn step(book: &mut Book, page: &mut Page, line: u64, c: Call) -> u64
 
 // What refuses the call, if anything does.
 fn reply_of(book: &Book, c: Call) -> Result<(), Refusal>
-    ensures { told (plainly result) ≡ plain (reply_number book.now c) }
+    ensures { told (plainly result) ≡ plain (reply_number (lent_book book.now) c) }
 {
     let view = BookView {
         desk: book.desk,
@@ -45,8 +49,10 @@ fn reply_of(book: &Book, c: Call) -> Result<(), Refusal>
 pub fn counted_step(book: &mut Book, page: &mut Page, line: u64, tally: &mut Tally, c: Call)
     requires done_bound { tally.old.done ≤ 100000 }
     requires other_bound { tally.old.other ≤ 100000 }
-    ensures replied { replied_of (answer book.old c).reply.number book.new page.new ≡ replied line page.old (answer book.old c) }
-    ensures tally_after { tally.new ≡ tallied tally.old (answer book.old c).reply.number }
+    ensures replied { replied_of (answer (lent_book book.old) c).reply.number (lent_book book.new) (page_of page.new) ≡ replied line (page_of page.old) (answer (lent_book book.old) c) }
+    ensures tables { SameTables book.old book.new }
+    ensures buffer { SameBuffer page.old page.new }
+    ensures tally_after { tally.new ≡ tallied tally.old (answer (lent_book book.old) c).reply.number }
 {
     let number = step(book, page, line, c);
     raise(tally, number);
@@ -54,8 +60,10 @@ pub fn counted_step(book: &mut Book, page: &mut Page, line: u64, tally: &mut Tal
 
 // A call that nothing refuses. Only a trace, which works in tables of its own, is tested again.
 fn step_done(book: &mut Book, page: &mut Page, line: u64, c: Call) -> u64
-    requires { Accepted book.old c }
-    ensures { replied_of result book.new page.new ≡ replied line page.old (answer book.old c) }
+    requires { Accepted (lent_book book.old) c }
+    ensures replied { replied_of result (lent_book book.new) (page_of page.new) ≡ replied line (page_of page.old) (answer (lent_book book.old) c) }
+    ensures tables { SameTables book.old book.new }
+    ensures buffer { SameBuffer page.old page.new }
 {
     match c {
         Call::Trace(n) => put_trace(book, page, line, n),
@@ -69,9 +77,10 @@ fn step_done(book: &mut Book, page: &mut Page, line: u64, c: Call) -> u64
 // Each call but a trace is done by its own function; a sign changes nothing.
 #[tactic(auto, using(crate::proofs::Steps::signed))]
 fn call_done(book: &mut Book, c: Call) -> Done
-    requires accepted { Accepted book.old c }
+    requires accepted { Accepted (lent_book book.old) c }
     requires no_trace { is_trace c ≡ false }
-    ensures { outcome_of (Ok result) book.new ≡ answer book.old c }
+    ensures done { outcome_of (Ok result) (lent_book book.new) ≡ answer (lent_book book.old) c }
+    ensures tables { SameTables book.old book.new }
 {
     let desk = &mut *book.desk;
     let inbox = &mut *book.inbox;
@@ -111,7 +120,8 @@ fn call_done(book: &mut Book, c: Call) -> Done
 // The reply's line of an answer that hands out no pieces, and its number.
 pub(crate) fn put_answered(page: &mut Page, line: u64, a: Answer) -> u64
     ensures number_value { result ≡ (told a).number }
-    ensures page_after { page.new ≡ put page.old (reply_line line (told a)) }
+    ensures written { page_of page.new ≡ put (page_of page.old) (reply_line line (told a)) }
+    ensures buffer { SameBuffer page.old page.new }
 {
     put_reply_line(page, line, a);
     reply_number(a)

@@ -7,7 +7,9 @@ ghost use Rattle.rules.specs.Lists.{joined};
 ghost use Rattle.rules.specs.Lines.{tabbed};
 ghost use Rattle.rules.specs.Answer.{answer};
 ghost use Rattle.rules.specs.Transcript.{piece_values};
+ghost use Rattle.rules.specs.Lent.{lent_book};
 ghost use Rattle.pages.specs.Writing.{put};
+ghost use Rattle.pages.specs.Lent.{page_of, SameBuffer};
 ghost use Rattle.steps.specs.Step.{replied_of, replied, answer_text, HasTables};
 
 use crate::step::put_answered;
@@ -22,7 +24,8 @@ use rules::rows::{Lot, Nonce};
 // A trace works in a table of lots that is lent for it, hands out its pieces in another, and leaves the book
 // as it was. Both tables have "at least as many rows as the history has records".
 pub(crate) fn put_trace(book: &Book, page: &mut Page, line: u64, n: Nonce) -> u64
-    ensures { replied_of result book.now page.new ≡ replied line page.old (answer book.now (Call.Trace n)) }
+    ensures replied { replied_of result (lent_book book.now) (page_of page.new) ≡ replied line (page_of page.old) (answer (lent_book book.now) (Call.Trace n)) }
+    ensures buffer { SameBuffer page.old page.new }
 {
     if book.desk.counts.records <= SHORT {
         put_trace_in::<SHORT>(book, page, line, n)
@@ -33,9 +36,10 @@ pub(crate) fn put_trace(book: &Book, page: &mut Page, line: u64, n: Nonce) -> u6
 
 // The same in tables of so many rows.
 fn put_trace_in<const ROWS: usize>(book: &Book, page: &mut Page, line: u64, n: Nonce) -> u64
-    requires enough { book.now.desk.counts.records ≤ history_rows → book.now.desk.counts.records ≤ ROWS }
+    requires enough { (lent_book book.now).desk.counts.records ≤ history_rows → (lent_book book.now).desk.counts.records ≤ ROWS }
     requires rows_bound { ROWS ≤ history_rows }
-    ensures { replied_of result book.now page.new ≡ replied line page.old (answer book.now (Call.Trace n)) }
+    ensures replied { replied_of result (lent_book book.now) (page_of page.new) ≡ replied line (page_of page.old) (answer (lent_book book.now) (Call.Trace n)) }
+    ensures buffer { SameBuffer page.old page.new }
 {
     let mut work = [Lot::default(); ROWS];
     let mut pieces = [Lot::default(); ROWS];
@@ -51,8 +55,9 @@ fn put_traced(
     line: u64,
     n: Nonce,
 ) -> u64
-    requires { HasTables book.now.desk.counts.records work.old pieces.old }
-    ensures { replied_of result book.now page.new ≡ replied line page.old (answer book.now (Call.Trace n)) }
+    requires { HasTables (lent_book book.now).desk.counts.records work.old pieces.old }
+    ensures replied { replied_of result (lent_book book.now) (page_of page.new) ≡ replied line (page_of page.old) (answer (lent_book book.now) (Call.Trace n)) }
+    ensures buffer { SameBuffer page.old page.new }
 {
     let view = BookView {
         desk: book.desk,
@@ -70,7 +75,8 @@ fn put_traced(
 #[tactic(auto, using(crate::proofs::Pages::answer_line))]
 fn put_found(page: &mut Page, line: u64, count: usize, pieces: &[Lot]) -> u64
     ensures number_value { result ≡ (told (Ok (Done.Traced count))).number }
-    ensures page_after { page.new ≡ put page.old (answer_text line (Ok (Done.Traced count)) pieces.now) }
+    ensures written { page_of page.new ≡ put (page_of page.old) (answer_text line (Ok (Done.Traced count)) pieces.now) }
+    ensures buffer { SameBuffer page.old page.new }
 {
     let answer = Ok(Done::Traced(count));
     put_answer(page, line, answer);
@@ -82,7 +88,8 @@ fn put_found(page: &mut Page, line: u64, count: usize, pieces: &[Lot]) -> u64
 // "Deposit number and amount for each piece": the first n rows of their table.
 #[tactic(auto, using(crate::proofs::Pages::no_pieces, crate::proofs::Pages::more_pieces))]
 fn put_pieces(page: &mut Page, pieces: &[Lot], n: usize)
-    ensures { page.new ≡ put page.old (tabbed (joined piece_values (take n pieces.now))) }
+    ensures written { page_of page.new ≡ put (page_of page.old) (tabbed (joined piece_values (take n pieces.now))) }
+    ensures buffer { SameBuffer page.old page.new }
 {
     let handed = &pieces[..n.min(pieces.len())];
     for piece in handed {

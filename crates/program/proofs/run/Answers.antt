@@ -1,17 +1,17 @@
-use Rattle.std.proofs.Common.{◌≡◌, [], replicate}
+use Rattle.std.proofs.Common.{◌≡◌, [], refl, replicate}
 use Rattle.rules.specs.declared.desk.Desk.{Desk}
 use Rattle.rules.specs.State.{desk_of, empty_state, empty_book}
 use Rattle.rules.specs.Answer.{book_of}
-use Rattle.runner.specs.Machine.{Machine, start}
+use Rattle.runner.specs.Machine.{Progress, machine_with, start}
 use Rattle.program.specs.Turns.{Session}
 use Rattle.program.proofs.Turns.{session-transcript}
 use Rattle.program.proofs.run.Goals as goal
 
 -- tables of zeros are those of the empty book
-begins : (d : Desk) {m : Machine} → d ≡ desk_of empty_state
-    → m ≡ record { book = book_of d (replicate 256 0) (replicate 128 0) (replicate 5120 0); tally = record { done = 0; other = 0 }; line = 1; held = [] } → m ≡ start
+begins : (d : Desk) {p : Progress} → d ≡ desk_of empty_state → p ≡ record { tally = record { done = 0; other = 0 }; line = 1; held = [] }
+    → machine_with p (book_of d (replicate 256 0) (replicate 128 0) (replicate 5120 0)) ≡ start
 unfolding start empty_book
-begins d e h = rw e at h
+begins d e h = rw (e, h) refl
 
 pub returns : goal.returns
 returns g c =
@@ -19,6 +19,6 @@ returns g c =
     let left = g.R.Read.remaining c.answer_all-all.new.reader in
     let before = g.W.Write.contents c.args.writer.now in
     let after = g.W.Write.contents c.answer_all-all.new.writer in
-    let begun = begins c.empty_desk-desk.result c.empty_desk-desk.ensures c.new-session.ensures in
+    let begun = begins c.empty_desk-desk.result c.empty_desk-desk.ensures c.new.ensures in
     let s : Session start had left before after c.is_ok.result = rw (c.is_ok.ensures.value, ← begun) c.answer_all-all.ensures in
     record { session = s; transcript = session-transcript had left before after c.is_ok.result s }

@@ -7,10 +7,10 @@ use Rattle.pages.proofs.PageLaws.{put_then}
 use Rattle.replies.proofs.ReplyLaws.{put_more_values}
 use Rattle.replies.proofs.put_end.Goals as goal
 
-pub returns : goal.returns
+pub returns-clause-written : goal.returns-clause-written
 unfolding bytes end_text
-returns c =
+returns-clause-written c =
     let t = c.args.t in
     put_then _ (bytes "end" ++ tabbed (t.done ∷ t.other ∷ [])) (line_feed ∷ [])
-    (put_then _ (bytes "end") (tabbed (t.done ∷ t.other ∷ [])) c.put_bytes.ensures (put_more_values _ t.done (t.other ∷ []) c.put_value.ensures c.put_value-2.ensures))
-    c.put_line_feed.ensures
+    (put_then _ (bytes "end") (tabbed (t.done ∷ t.other ∷ [])) c.put_bytes.ensures.written (put_more_values _ t.done (t.other ∷ []) c.put_value.ensures.written c.put_value-2.ensures.written))
+    c.put_line_feed.ensures.written
