@@ -10,7 +10,7 @@ ghost use Rattle.std.specs.Prelude.{◌<◌};
 
 use data::{BOOKS, CALLS, EDITS, Part};
 use rules::answers::{Answer, Done, Refusal};
-use rules::book::BookView;
+use rules::book::{Book, BookView};
 use rules::calls::{Call, SignFields};
 use rules::desk::{Counts, Desk};
 use rules::limits::{
@@ -41,14 +41,18 @@ fn one(rt: &impl Print, book: u64, call: Call) -> io::Result<()> {
     let i = size(book, Part::InboxSize, INBOX_SIZE).min(inbox.len());
     let o = size(book, Part::OutboxSize, OUTBOX_SIZE).min(outbox.len());
     let h = size(book, Part::HistorySize, HISTORY_SIZE).min(history.len());
-    let answer = called(
-        &mut desk,
-        &mut inbox[..i],
-        &mut outbox[..o],
-        &mut history[..h],
-        call,
-    );
-    let then = signed(&desk, &inbox[..i], &outbox[..o], &history[..h]);
+    let mut book = Book {
+        desk: &mut desk,
+        inbox: &mut inbox[..i],
+        outbox: &mut outbox[..o],
+        history: &mut history[..h],
+    };
+    let answer = called(&mut book, call);
+    let sign = SignFields {
+        member: 2,
+        domain: 5,
+    };
+    let then = called(&mut book, Call::Sign(sign));
     let sum = digest(
         digest(digest(desk_digest(&desk), &inbox), &outbox),
         &history,
@@ -58,21 +62,6 @@ fn one(rt: &impl Print, book: u64, call: Call) -> io::Result<()> {
         replies::reply_number(answer),
         replies::reply_number(then)
     )
-}
-
-// A sign request.
-fn signed(desk: &Desk, inbox: &[u64], outbox: &[u64], history: &[u64]) -> Answer {
-    let book = BookView {
-        desk,
-        inbox,
-        outbox,
-        history,
-    };
-    let sign = SignFields {
-        member: 2,
-        domain: 5,
-    };
-    plain(ledger::sign(&book, sign))
 }
 
 // ---- the books
@@ -131,13 +120,11 @@ fn counts(book: u64) -> Counts {
 }
 
 // ---- the calls
-fn called(
-    desk: &mut Desk,
-    inbox: &mut [u64],
-    outbox: &mut [u64],
-    history: &mut [u64],
-    call: Call,
-) -> Answer {
+fn called(book: &mut Book, call: Call) -> Answer {
+    let desk = &mut *book.desk;
+    let inbox = &mut *book.inbox;
+    let outbox = &mut *book.outbox;
+    let history = &mut *book.history;
     match call {
         Call::Deposit(x) => plain(inbox::deposit(desk, inbox, outbox, history, x)),
         Call::Claim(x) => plain(inbox::claim(desk, inbox, outbox, history, x)),

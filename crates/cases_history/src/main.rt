@@ -13,7 +13,7 @@ use rules::answers::Refusal;
 use rules::book::BookView;
 use rules::desk::{Counts, Desk};
 use rules::limits::{HISTORY_ROWS, HISTORY_SIZE, INBOX_SIZE, OUTBOX_SIZE};
-use rules::rows::{DepositNumber, Lot, Nonce, Record};
+use rules::rows::{DepositNumber, Kind, Lot, Nonce, Record};
 use std::io;
 
 fn main(rt: HostRuntime) -> io::Result<()> {
@@ -70,8 +70,8 @@ fn records(rule: Rule) -> usize {
 }
 
 fn fill(rule: Rule, history: &mut [u64]) {
-    for i in 0..HISTORY_ROWS {
-        let [kind, asset, amount, first, second] = record(rule, i as u64);
+    for i in 0..HISTORY_ROWS as u16 {
+        let [kind, asset, amount, first, second] = record(rule, i);
         let row = Record {
             kind,
             asset,
@@ -79,13 +79,11 @@ fn fill(rule: Rule, history: &mut [u64]) {
             first,
             second,
         };
-        tables::rows::put(history, i, row);
+        tables::rows::put(history, usize::from(i), row);
     }
 }
 
-fn record(rule: Rule, i: u64) -> [u64; 5]
-    requires { i < 1024 }
-{
+fn record(rule: Rule, i: u16) -> [u64; 5] {
     match rule {
         Rule::Whole => whole(i),
         Rule::Split => split(i),
@@ -96,61 +94,58 @@ fn record(rule: Rule, i: u64) -> [u64; 5]
 }
 
 // 400 lots go back and forth whole, 600 times, and then pay.
-fn whole(i: u64) -> [u64; 5]
-    requires { i < 1024 }
-{
+fn whole(i: u16) -> [u64; 5] {
+    let i = u64::from(i);
     if i < 400 {
-        return [1, 3, 1, 2, i + 1];
+        return [Kind::Claim as u64, 3, 1, 2, i + 1];
     }
     if i < 1000 {
         if i % 2 == 0 {
-            return [2, 3, 400, 2, 4];
+            return [Kind::Transfer as u64, 3, 400, 2, 4];
         }
-        return [2, 3, 400, 4, 2];
+        return [Kind::Transfer as u64, 3, 400, 4, 2];
     }
-    [3, 3, 400, 2, 7]
+    [Kind::Withdrawal as u64, 3, 400, 2, 7]
 }
 
 // Two members pay each other back and forth, splitting as they go.
-fn split(i: u64) -> [u64; 5]
-    requires { i < 1024 }
-{
+fn split(i: u16) -> [u64; 5] {
+    let i = u64::from(i);
     if i < 2 {
-        return [1, 3, 1000, 2 + 2 * i, i + 1];
+        return [Kind::Claim as u64, 3, 1000, 2 + 2 * i, i + 1];
     }
     if i < 1023 {
         let x = 1 + i / 2 * 2 * 37 % 499;
         if i % 2 == 0 {
-            return [2, 3, x, 2, 4];
+            return [Kind::Transfer as u64, 3, x, 2, 4];
         }
-        return [2, 3, x, 4, 2];
+        return [Kind::Transfer as u64, 3, x, 4, 2];
     }
-    [3, 3, 500, 2, 9]
+    [Kind::Withdrawal as u64, 3, 500, 2, 9]
 }
 
 // One of each kind.
-fn each(i: u64) -> [u64; 5] {
+fn each(i: u16) -> [u64; 5] {
     match i {
-        0 => [1, 3, 500, 2, 1],
-        1 => [2, 3, 50, 2, 5],
-        2 => [3, 3, 100, 2, 7],
-        3 => [3, 3, 50, 2, 8],
-        4 => [4, 5, 1, 1, 2],
-        _ => [1, 3, 40, 6, 4],
+        0 => [Kind::Claim as u64, 3, 500, 2, 1],
+        1 => [Kind::Transfer as u64, 3, 50, 2, 5],
+        2 => [Kind::Withdrawal as u64, 3, 100, 2, 7],
+        3 => [Kind::Withdrawal as u64, 3, 50, 2, 8],
+        4 => [Kind::Grant as u64, 5, 1, 1, 2],
+        _ => [Kind::Claim as u64, 3, 40, 6, 4],
     }
 }
 
 // All members and assets.
-fn everyone(i: u64) -> [u64; 5]
-    requires { i < 1024 }
-{
+fn everyone(i: u16) -> [u64; 5] {
+    let i = u64::from(i);
     let m = i / 4 % 16 + 1;
     let a = i / 4 % 8 + 1;
     match i % 4 {
-        0 => [1, a, 100, m, i + 1],
-        1 => [2, a, 60, m, m % 16 + 1],
-        2 => [3, a, 30, m, 7],
-        _ => [1, a, 5, m, i + 1],
+        0 => [Kind::Claim as u64, a, 100, m, i + 1],
+        1 => [Kind::Transfer as u64, a, 60, m, m % 16 + 1],
+        2 => [Kind::Withdrawal as u64, a, 30, m, 7],
+        _ => [Kind::Claim as u64, a, 5, m, i + 1],
     }
 }
 
