@@ -12,6 +12,7 @@ pub fn is_within(lo: u64, hi: u64, x: u64) -> bool
     lo <= x && x <= hi
 }
 
+// Each field has a test of its own, under the definition's name; what they have in common is `is_within`.
 pub fn is_member(m: u64) -> bool
     ensures { result ≡ is_member m }
 {

@@ -1,22 +1,22 @@
 -- What is written on a page: text after text, the digits of a number, and that a text for which there is room stands there whole.
-use Prim.Native.Nat.{ℕ, zero, suc, ◌+◌, ◌-◌, ◌*◌, ◌/◌, ◌%◌, ◌^◌, ◌≤◌, ◌<◌, max}
+use Prim.Native.Nat.{ℕ, zero, suc, ◌+◌, ◌*◌, ◌/◌, ◌%◌, ◌^◌, ◌≤◌, ◌<◌, max}
 use mathlib.Core.Path.{◌≡◌, refl, sym, ap, ◌∙◌}
-use mathlib.Core.Bool.{true, false, cond}
+use mathlib.Core.Bool.{cond}
 use mathlib.Core.List.{List, [], ◌∷◌, ◌++◌, append_assoc, append-nil}
 use native.Mathlib.Nat.{pow-suc, max-eq_left, max-eq_right}
 use native.Mathlib.Numerals.{add-one}
 use native.Mathlib.Omega.{arith}
 use lib.Dec.{ltb}
-use lib.ListN.{length, get_or, take, drop, set, length-set, length-append, length-drop, take-append-drop}
-use lib.Seq.{take-suc, take-suc-set, drop-cons, drop-set-lt, get_or-set_same, drop-length, drop-drop, append_snoc}
-use borrow.Rule.Slice.PartMut.{put_mid}
-use borrow.Author.Tests.{lt-ltb, le-ltb, ltb-true, ltb-false}
+use lib.ListN.{length, get_or, take, drop, set, length-set, length-append, take-append-drop}
+use lib.Seq.{take-suc, take-suc-set, drop-set-lt, append_snoc}
+use borrow.Author.Tests.{lt-ltb, le-ltb}
+use Rattle.std.proofs.lemmas.Fmt.{AppendsLastDigit, decimal_from_appends, length-decimal-le}
+use Rattle.std.specs.Fmt.{decimal as printed}
 use Rattle.rules.specs.Limits.{highest_field}
 use Rattle.rules.specs.Lists.{joined}
 use Rattle.rules.specs.Lines.{spelled, decimal, tabbed}
 use Rattle.rules.proofs.Laying.{joined_append}
-use Rattle.rules.proofs.Digits.{decimal_spells}
-use Rattle.pages.specs.Writing.{Page, page, put_byte, put, laid}
+use Rattle.pages.specs.Writing.{Page, page, put_byte, put}
 
 -- ---- a byte, and text after text
 pub put-nothing : (p : Page) → p ≡ put p []
@@ -54,6 +54,27 @@ pub put_tabbed : (p : Page) {q r : Page} (n : ℕ) → q ≡ put p (9 ∷ []) �
 put_tabbed p n e f = rw (tabbed-one n) (put_then p (9 ∷ []) (decimal n) e f)
 
 -- ---- a number's digits
+-- both write a number's tenth's digits, and then its last one
+spelled-appends : AppendsLastDigit spelled
+unfolding spelled
+spelled-appends =
+    record {
+      one = λ k n h. rw (lt-ltb n 10 h);
+      more = λ k n h. rw (le-ltb n 10 h);
+    }
+
+pub put_digit : (p : Page) {q : Page} (n : ℕ) → n < 10 → q ≡ put p ((48 + n) ∷ []) → q ≡ put p (decimal n)
+unfolding decimal
+put_digit p n h e = rw (spelled-appends.one 19 n h) e
+
+-- the digits that the library prints of a number are the ones that the document has
+pub printed_is : (n : ℕ) → n ≤ highest_field → printed n ≡ decimal n
+unfolding decimal
+printed_is n h = sym (decimal_from_appends spelled spelled-appends 20 n (omega arith) (length-decimal-le 20 n (omega arith) (omega arith) (omega arith)))
+
+pub put_printed : (p : Page) {q : Page} (n : ℕ) → n ≤ highest_field → q ≡ put p (printed n) → q ≡ put p (decimal n)
+put_printed p n h e = rw (printed_is n h) at e
+
 -- one more is no more: so many digits spell the number already
 spelled-enough : (k n : ℕ) → n < 10 ^ suc k → spelled (suc k) n ≡ spelled (suc (suc k)) n
 unfolding spelled
@@ -96,7 +117,7 @@ length_places k (suc n) m e h l t =
     sym (rw g at (length_power k m h l (omega arith)))
 
 -- ---- a text laid on a page
-pub put-laid : (o : List ℕ) (at : ℕ) (text : List ℕ) → at + length text ≤ length o → page (laid o at text) (at + length text) ≡ put (page o at) text
+pub put-laid : (o : List ℕ) (at : ℕ) (text : List ℕ) → at + length text ≤ length o → page (take at o ++ text ++ drop (at + length text) o) (at + length text) ≡ put (page o at) text
 unfolding put put_byte
 put-laid o at [] h =
     let e : at + 0 ≡ at = omega arith in
@@ -108,86 +129,15 @@ put-laid o at (b ∷ bs) h =
     rw (lt-ltb at (length o) f)
     (rw (e, ← drop-set-lt (at + 1 + length bs) o at b (omega arith), ← append_snoc (take at o) b bs, ← take-suc-set o at b f, ← add-one at) (put-laid (set o at b) (at + 1) bs (omega arith)))
 
--- the same of a part of the page that was lent to be filled
-pub put_part : (o : List ℕ) (at k : ℕ) (text : List ℕ) {part : List ℕ} {p : Page} → page o at ≡ p → part ≡ text → k ≡ length text → at + k ≤ length o
-    → page (put_mid at (at + k - at) o part) (at + k) ≡ put p text
-put_part o at k text e t f h =
-    let n : at + k - at ≡ length text = omega arith in
-    rw (← e, t, n, f, drop-drop (length text) at o, ← append_assoc (take at o) text (drop (at + length text) o)) (put-laid o at text (omega arith))
-
--- ---- from the last digit to the first: those of rest are still to be written, before place j
-pub record Spelling (n rest j : ℕ) (digits : List ℕ) : Type 0 where
-  pub some : 0 < j → decimal n ≡ decimal rest ++ drop j digits
-  pub none : j ≤ 0 → digits ≡ decimal n
-  pub within : rest ≤ n
-  pub size : length digits ≡ length (decimal n)
-  pub fits : n ≤ highest_field
-
-pub spelling_starts : (n : ℕ) (digits : List ℕ) → n ≤ highest_field → length digits ≡ length (decimal n) → Spelling n n (length digits) digits
-spelling_starts n digits h e =
-    let l = (decimal_spells n h).some in
-    record {
-      some = λ p. rw (drop-length digits, append-nil (decimal n));
-      none = λ p. absurd (omega arith);
-      within = omega arith;
-      size = e;
-      fits = h;
-    }
-
-module _ (n rest j : ℕ) (digits : List ℕ) (p : 0 < j) (h : j ≤ length digits) (s : Spelling n rest j digits) where
-  -- one digit more stands
-  spelled_on : List ℕ
-  spelled_on = set digits (j - 1) (48 + rest % 10)
-
-  Next : Type 0
-  Next = Spelling n (rest / 10) (j - 1) spelled_on
-
-  stands : drop (j - 1) spelled_on ≡ (48 + rest % 10) ∷ drop j digits
-  unfolding spelled_on
-  stands =
-      let q = j - 1 in
-      let b = 48 + rest % 10 in
-      let e : suc q ≡ j = omega arith in
-      let f : q < length digits = omega arith in
-      let g : length (set digits q b) ≡ length digits = length-set digits q b in
-      drop-cons (set digits q b) q 0 (omega arith) ∙ rw (get_or-set_same digits q b 0 f, drop-set-lt (suc q) digits q b (omega arith), e)
-
-  how_many : length (decimal n) ≡ length (decimal rest) + (length digits - j)
-  how_many = rw (s.some p, length-append, length-drop)
-
-  spelling_short : rest < 10 → Next
-  unfolding Next spelled_on
-  spelling_short l =
-      let a : length (decimal rest) ≡ 1 = length-short rest l in
-      let b : length (decimal n) ≡ length (decimal rest) + (length digits - j) = how_many in
-      let e : j - 1 ≡ 0 = omega (arith, s.size) in
-      let r : rest % 10 ≡ rest = omega arith in
-      record {
-        some = λ q. absurd (omega arith);
-        none = λ q. rw e ((rw e at stands) ∙ rw r (sym (rw (decimal-short rest l) at (s.some p))));
-        within = omega (arith, s.within, s.fits);
-        size = length-set digits (j - 1) (48 + rest % 10) ∙ s.size;
-        fits = s.fits;
-      }
-
-  spelling_long : 10 ≤ rest → Next
-  unfolding Next spelled_on
-  spelling_long l =
-      let a : length (decimal rest) ≡ length (decimal (rest / 10)) + 1 = length_long rest l (omega (arith, s.within, s.fits)) in
-      let b : length (decimal n) ≡ length (decimal rest) + (length digits - j) = how_many in
-      let t : 1 ≤ length (decimal (rest / 10)) = (decimal_spells (rest / 10) (omega (arith, s.within, s.fits))).some in
-      record {
-        some = λ q. s.some p ∙ rw (decimal_long rest l (omega (arith, s.within, s.fits)), append_assoc (decimal (rest / 10)) ((48 + rest % 10) ∷ []) (drop j digits)) (ap (λ (x : List ℕ). decimal (rest / 10) ++ x) (sym stands));
-        none = λ q. absurd (omega (arith, s.size));
-        within = omega (arith, s.within, s.fits);
-        size = length-set digits (j - 1) (48 + rest % 10) ∙ s.size;
-        fits = s.fits;
-      }
-
-  pub spelling_goes_on : Spelling n (rest / 10) (j - 1) (set digits (j - 1) (48 + rest % 10))
-  unfolding Next spelled_on
-  spelling_goes_on =
-      elim (ltb rest 10) as (λ v. ltb rest 10 ≡ v → Next) [ true ↦ λ e. spelling_short (ltb-true rest 10 e) | false ↦ λ e. spelling_long (ltb-false rest 10 e) ] refl
+-- the digits that the library writes on the page itself, so that they end at a place
+pub put_direct : (o new : List ℕ) (at k r : ℕ) (n : ℕ) → n ≤ highest_field → k ≡ length (decimal n) → at + k ≤ length o → r + length (printed n) ≡ at + k
+    → drop r new ≡ printed n ++ drop (at + k) o → take r new ≡ take r o → page new (at + k) ≡ put (page o at) (decimal n)
+put_direct o new at k r n h e f g d t =
+    let p : printed n ≡ decimal n = printed_is n h in
+    let l : length (printed n) ≡ length (decimal n) = ap length p in
+    let q : r ≡ at = omega arith in
+    let s : new ≡ take at o ++ (decimal n ++ drop (at + length (decimal n)) o) = sym (take-append-drop r new) ∙ rw (t, d, q, p, e) in
+    rw (s, e, ← append_assoc (take at o) (decimal n) (drop (at + length (decimal n)) o)) (put-laid o at (decimal n) (omega arith))
 
 -- ---- a text for which there is room
 abbrev pub upto : Page → ℕ

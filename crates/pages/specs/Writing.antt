@@ -1,5 +1,5 @@
 -- Writing into a lent buffer from a place on.
-use Rattle.std.specs.Prelude.{ℕ, ◌+◌, cond, List, [], ◌∷◌, ◌++◌, ltb, length, take, drop, set}
+use Rattle.std.specs.Prelude.{ℕ, ◌+◌, cond, List, [], ◌∷◌, ltb, length, set}
 
 -- a buffer, and the place up to which it is written
 pub record Page : Type 0 where
@@ -17,7 +17,3 @@ put_byte p b = page (set p.bytes p.upto b) (cond (ltb p.upto (length p.bytes)) (
 unfoldable pub put : Page → List ℕ → Page
 put p [] = p
 put p (b ∷ bs) = put (put_byte p b) bs
-
--- a text that lies in a list from a place on
-abbrev pub laid : List ℕ → ℕ → List ℕ → List ℕ
-laid o at text = take at o ++ text ++ drop (at + length text) o

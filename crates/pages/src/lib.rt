@@ -45,7 +45,9 @@ impl<'a> Page<'a> {
         }
     }
 
-    // A number's decimal digits: at their places on the page where there is room for all of them.
+    // A number's decimal digits, as the library's `itoa` writes them: at their places on the page where there is room for
+    // all of them.
+    #[tactic(auto, using(crate::proofs::PageLaws::put_digit, crate::proofs::PageLaws::put_direct, crate::proofs::PageLaws::printed_is, crate::proofs::PageLaws::put_printed))]
     pub fn put_decimal(&mut self, n: u64)
         ensures written { page_of self.new ≡ put (page_of self.old) (decimal n) }
         ensures lent { SameBuffer self.old self.new }
@@ -56,14 +58,11 @@ impl<'a> Page<'a> {
         }
         let k = places(n);
         if k <= self.room() {
-            spell(&mut self.bytes[self.upto..self.upto + k], n);
+            itoa::write_digits(n, self.bytes, self.upto + k);
             self.upto += k;
             return;
         }
-        let mut text = [0u8; 20];
-        let digits = &mut text[..k];
-        spell(digits, n);
-        self.put_bytes(digits);
+        self.put_bytes(itoa::Buffer::new().format(n).as_bytes());
     }
 
     // A further value of a line: its tab, and then its digits.
@@ -114,18 +113,4 @@ fn places(n: u64) -> usize
     ensures few { result ≤ 20 }
 {
     n.max(1).ilog10() as usize + 1
-}
-
-// A number's digits, the last one first, in a part of a buffer that has just so many places. The loop goes over the
-// places: of `iter_mut().rev()` an invariant does not see what is written through it (tried).
-#[tactic(auto, using(crate::proofs::PageLaws::spelling_starts))]
-fn spell(digits: &mut [u8], n: u64)
-    requires { length digits.old ≡ length (decimal n) }
-    ensures { digits.new ≡ decimal n }
-{
-    let mut rest = n;
-    for i in (0..digits.len()).rev() {
-        digits[i] = b'0' + (rest % 10) as u8;
-        rest /= 10;
-    }
 }

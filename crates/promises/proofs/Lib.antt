@@ -55,3 +55,4 @@ pub mod Corollaries
 pub mod Demand3Examples
 pub mod Examples
 pub mod CarriedExamples
+pub mod RecordsOnce

@@ -26,7 +26,7 @@ pub fn provenance(book: &BookView, member: u64, asset: u64) -> Result<u64, Refus
     Ok(worked_out(book.history, book.desk.counts.records, member, asset))
 }
 
-// "going back through the history, one record fewer each time"
+// "going back through the history, one record fewer each time": it calls itself on that count, as document 01 has it.
 fn worked_out(history: &[u64], left: usize, member: u64, asset: u64) -> u64
     requires { CanWork history.now left }
     ensures { result ≡ provenance_of member asset (rows_of record_shape left history.now) }

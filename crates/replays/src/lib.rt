@@ -13,7 +13,8 @@ use takings::rows::{append, clear};
 use takings::work::{join, take_from};
 
 // "Payment n is the withdrawal with n withdrawals before it": its place among the records, or past
-// the last where there is none.
+// the last where there is none: so many are before it (`before_payment`). The kind is compared as the number that stands
+// in the row, where any may stand (`Record`).
 pub fn payment_at(history: &[u64], records: usize, n: u64) -> usize
     ensures { result ≡ length (before_payment n (rows_of record_shape records history.now)) }
 {

@@ -5,7 +5,8 @@ ghost use Rattle.runner.specs.Machine.{holds};
 use rules::limits::MOST_HELD;
 use std::marker::Model;
 
-// Of a line over 120 bytes no more than 121 are held: they tell the field of the whole line.
+// Of a line over 120 bytes no more than 121 are held: they tell the field of the whole line. A type of its own: what comes
+// past them is passed over (`extend`), where the library's `arrayvec` refuses it.
 #[derive(Drop)]
 pub struct Held {
     bytes: [u8; MOST_HELD],

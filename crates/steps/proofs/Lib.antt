@@ -1,3 +1,4 @@
 pub mod Once
 pub mod Pages
 pub mod Steps
+pub mod Said

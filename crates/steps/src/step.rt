@@ -19,8 +19,9 @@ use rules::answers::{Answer, Done, Refusal, Tally};
 use rules::book::{Book, BookView};
 use rules::calls::Call;
 
-// "A read line is one of nine calls": what refuses it is asked first, and where nothing does it is done. The reply's
-// number.
+// "A read line is one of nine calls": what refuses it is asked first, and where nothing does it is done. It answers the
+// reply's number, because the tally counts by it (`tallied`). Book, page and line are three parameters: each comes from
+// another owner, and a caller of the library lends them one by one.
 pub fn step(book: &mut Book, page: &mut Page, line: u64, c: Call) -> u64
     ensures replied { replied_of result (lent_book book.new) (page_of page.new) ≡ replied line (page_of page.old) (answer (lent_book book.old) c) }
     ensures tables { SameTables book.old book.new }

@@ -4,7 +4,8 @@ ghost use Rattle.rules.specs.Transcript.{tallied};
 
 use rules::answers::Tally;
 
-// The tally with one reply more: all that is added is added here.
+// The tally with one reply more: all that is added is added here. The bounds stand at each function that raises one: a
+// tally of a caller's may hold any counts, and `put_end` writes any, so the type has no invariant.
 #[tactic(auto, using(crate::proofs::Pages::raised_done, crate::proofs::Pages::raised_other))]
 pub fn raise(tally: &mut Tally, number: u64)
     requires done_bound { tally.old.done ≤ 100000 }

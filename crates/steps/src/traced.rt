@@ -22,7 +22,8 @@ use rules::limits::HISTORY_ROWS;
 use rules::rows::{Lot, Nonce};
 
 // A trace works in a table of lots that is lent for it, hands out its pieces in another, and leaves the book
-// as it was. Both tables have "at least as many rows as the history has records".
+// as it was. Both tables have "at least as many rows as the history has records". A short history has short ones: to fill
+// 1,024 rows with zeros would cost more than the trace does.
 pub(crate) fn put_trace(book: &Book, page: &mut Page, line: u64, n: Nonce) -> u64
     ensures replied { replied_of result (lent_book book.now) (page_of page.new) ≡ replied line (page_of page.old) (answer (lent_book book.now) (Call.Trace n)) }
     ensures buffer { SameBuffer page.old page.new }
@@ -71,7 +72,8 @@ fn put_traced(
     }
 }
 
-// A done trace's whole line, and its number.
+// A done trace's whole line, and its number. The count stands beside the table, as `trace` answers it: a table may be
+// longer.
 #[tactic(auto, using(crate::proofs::Pages::answer_line))]
 fn put_found(page: &mut Page, line: u64, count: usize, pieces: &[Lot]) -> u64
     ensures number_value { result ≡ (told (Ok (Done.Traced count))).number }

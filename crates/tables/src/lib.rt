@@ -35,7 +35,8 @@ pub fn take_out(t: &mut [u64], width: usize, i: usize, n: usize)
     close_up(&mut t[from..], width, n - i);
 }
 
-// The place of the first of the n used rows that has just these numbers, or n.
+// The place of the first of the n used rows that has just these numbers, or n: so the definition (`place_of`) has it, and
+// what is done with a place is said of that number.
 pub fn find_row(t: &[u64], n: usize, row: &[u64]) -> usize
     ensures { result ≡ place_of row.now n t.now }
 {

@@ -77,7 +77,7 @@ pub(crate) fn cut_lot(l: Lot, i: usize, member: u64, asset: u64, s: Taking) -> C
 
 // "takes from the front of the sender's line until the amount is met": rows are looked at until nothing is due, and
 // those after them move up, if any has to. Those that stay close up in place, and the pieces wait in the held table,
-// in the order taken.
+// in the order taken. The tables and their counts stand side by side: the reason is at the head of `rows`.
 pub fn take_from(
     work: &mut [Lot],
     used: usize,
