@@ -1,27 +1,26 @@
 -- The two ends of a trace: the number that it gives, and what it hands out and leaves where nothing is refused.
 use Rattle.std.specs.Prelude.{Result, Ok, Err}
-use Prim.Native.Nat.{ℕ, ◌-◌, ◌≤◌, ◌<◌}
+use Prim.Native.Nat.{ℕ, ◌≤◌}
 use mathlib.Core.Path.{◌≡◌, refl, sym, ap, ◌∙◌}
 use mathlib.Core.Logic.{◌≢◌}
-use mathlib.Core.Bool.{Bool, true, false, not, ◌||◌, cond}
+use mathlib.Core.Bool.{Bool, true, false, not, ◌||◌}
 use mathlib.Core.List.{List, [], ◌∷◌}
 use native.Mathlib.Omega.{arith}
-use lib.Dec.{leb, ltb, eqb}
+use lib.Dec.{leb, ltb}
 use lib.ListN.{length, replicate, length-append, length-replicate}
-use borrow.Author.Tests.{leb-true, leb-false, le-leb, lt-leb, ltb-false, ne_eqb}
+use borrow.Author.Tests.{leb-false, ltb-false}
 use Rattle.rules.specs.declared.rows.Nonce.{Nonce}
 use Rattle.rules.specs.declared.rows.Lot.{Lot}
-use Rattle.rules.specs.declared.rows.Record.{Record}
 use Rattle.rules.specs.declared.answers.Refusal.{Refusal}
 use Rattle.rules.specs.declared.answers.Done.{Done}
 use Rattle.rules.specs.Limits.{history_rows}
-use Rattle.rules.specs.Lists.{all, those}
+use Rattle.rules.specs.Lists.{all}
 use Rattle.rules.specs.Tables.{rows_of, record_shape}
 use Rattle.rules.specs.State.{State, Book, view, history_of}
 use Rattle.rules.specs.Replies.{Reply, told_refusal, told, plainly, plain, smallest}
 use Rattle.rules.specs.Refusals.{trace_refusals}
 use Rattle.rules.specs.Frame.{in_frame}
-use Rattle.rules.specs.History.{history_in_frame, is_withdrawal, withdrawals}
+use Rattle.rules.specs.History.{history_in_frame, withdrawals}
 use Rattle.rules.specs.Lots.{no_lot, pieces}
 use Rattle.rules.specs.Answer.{bad_history, in_front, trace_number, trace_answer}
 use Rattle.rules.proofs.Laying.{length-rows}
@@ -30,37 +29,12 @@ use Rattle.rules.proofs.Told.{refusal_number}
 use Rattle.rules.proofs.Accepts.{not_done}
 use Rattle.rules.proofs.Books.{Framed, framed}
 use Rattle.desk.proofs.Chains.{Entry, chain, not_below, chain-told}
-use Rattle.lots.specs.Traces.{before_payment, after_payment, nth_withdrawal}
-use Rattle.lots.proofs.TraceLaws.{payment-at}
+use Rattle.lots.specs.Traces.{before_payment}
 use Rattle.records.specs.Test.{history_frame}
 use Rattle.records.proofs.Counting.{history-whole}
 use Rattle.replays.specs.Replaying.{CanTrace, Traces}
+use Rattle.replays.proofs.Payments.{no_payment_lem}
 use Rattle.history.specs.Tracing.{trace_outcome_of, history_refusals, trace_number_for}
-
--- ---- whether there is such a payment
--- where there are no more withdrawals than n, all records come before it
-all-before : (n : ℕ) (h : List Record) → withdrawals h ≤ n → before_payment n h ≡ h
-unfolding withdrawals those before_payment
-all-before n [] l = refl
-all-before n (r ∷ rs) l = go (is_withdrawal r) l (all-before n rs) (all-before (n - 1) rs)
-  where
-    go : (p : Bool) → length (cond p (r ∷ those is_withdrawal rs) (those is_withdrawal rs)) ≤ n
-        → (withdrawals rs ≤ n → before_payment n rs ≡ rs) → (withdrawals rs ≤ n - 1 → before_payment (n - 1) rs ≡ rs)
-        → cond p (cond (eqb n 0) [] (r ∷ before_payment (n - 1) rs)) (r ∷ before_payment n rs) ≡ r ∷ rs
-    go true l here next = rw (ne_eqb n 0 (λ z. omega arith)) (ap (λ (k : List Record). r ∷ k) (next (omega arith)))
-    go false l here next = ap (λ (k : List Record). r ∷ k) (here l)
-
--- where there are more, not all do
-some_after : (n : ℕ) (h : List Record) → n < withdrawals h → length (before_payment n h) < length h
-some_after n h l =
-    omega (arith, ap length (payment-at n h l).whole ∙ length-append (before_payment n h) (nth_withdrawal n h ∷ after_payment n h))
-
-pub no_payment_lem : (n : ℕ) (h : List Record) → leb (length h) (length (before_payment n h)) ≡ leb (withdrawals h) n
-no_payment_lem n h = go (leb (withdrawals h) n) refl
-  where
-    go : (p : Bool) → leb (withdrawals h) n ≡ p → leb (length h) (length (before_payment n h)) ≡ p
-    go true e = le-leb (length h) (length (before_payment n h)) (omega (arith, ap length (all-before n h (leb-true (withdrawals h) n e))))
-    go false e = lt-leb (length h) (length (before_payment n h)) (some_after n h (leb-false (withdrawals h) n e))
 
 -- ---- the table of refusals
 abbrev pub trace_entries : Bool → ℕ → ℕ → ℕ → ℕ → List Entry

@@ -6,6 +6,7 @@ use Rattle.rules.specs.Coincide.{Two, Coincide, AnyTwo}
 use Rattle.rules.specs.State.{empty_book}
 use Rattle.rules.specs.Lent.{lent_book, SameTables}
 use Rattle.rules.proofs.Told.{once}
+use Rattle.rules.proofs.Lent.{same_tables}
 use Rattle.rules.proofs.Coincide.{one, joined, from_each, value, first}
 use Rattle.pages.specs.Lent.{SamePage}
 use Rattle.runner.specs.Machine.{Machine, Progress}
@@ -38,12 +39,10 @@ pub run_some_once : AnyTwo run-some.ended (λ M 𝓤 𝓛. run-some.clauses 𝓛
 run_some_once w x g =
     from_each w (joined w (one w) (joined w (one w) (one w))) (joined w (one w) (joined w (one w) (one w))) (λ p q e.
     let s = fed_once _ _ p.0 q.0 e in
-    let t = p.1.0 in
-    let u = q.1.0 in
     record {
       session = ap progress_of s.0;
       book = ap (λ (m : Machine). m.book) s.0;
-      tables = record { desk = u.desk ∙ sym t.desk; inbox = u.inbox ∙ sym t.inbox; outbox = u.outbox ∙ sym t.outbox; history = u.history ∙ sym t.history };
+      tables = same_tables p.1.0 q.1.0;
       page = (s.1, q.1.1 ∙ sym p.1.1);
     })
 

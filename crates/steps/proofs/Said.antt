@@ -2,22 +2,18 @@
 use Rattle.std.specs.Prelude.{Ok, Err}
 use Prim.Native.Nat.{ℕ}
 use mathlib.Core.Path.{◌≡◌, sym, ap}
-use mathlib.Core.Bool.{Bool, true, false, false≢true}
+use mathlib.Core.Bool.{true, false, false≢true}
 use native.Mathlib.Omega.{arith}
-use lib.ListN.{length}
 use Rattle.rules.specs.declared.answers.Done.{Done}
 use Rattle.rules.specs.declared.calls.Call.{Call}
 use Rattle.rules.specs.Types.{Answer}
 use Rattle.rules.specs.State.{Book}
-use Rattle.rules.specs.Replies.{Reply, told, plain}
+use Rattle.rules.specs.Replies.{told, plain}
 use Rattle.rules.specs.Answer.{reply_number, outcome_of, answer}
 use Rattle.rules.specs.Facts.{Accepted}
 use Rattle.desk.proofs.Books.{refuses, accepts}
-use Rattle.steps.proofs.Steps.{signed}
+use Rattle.steps.proofs.Steps.{value_count, signed}
 use Rattle.steps.specs.Said.{is_sign, says_all}
-
-abbrev value_count : Reply → ℕ
-value_count r = length r.values
 
 module _ (b : Book) where
   sign_said : (c : Call) → Accepted b c → is_sign c ≡ true → outcome_of (Ok Done.Plain) b ≡ answer b c

@@ -31,7 +31,7 @@ use Rattle.replies.proofs.ReplyLaws.{reply-line, reply-text}
 use Rattle.rules.specs.declared.answers.Done.{Done}
 use Rattle.steps.specs.Step.{Replied, HasTables, is_trace, handed, answer_text, replied_of, replied}
 
-abbrev value_count : Reply → ℕ
+abbrev pub value_count : Reply → ℕ
 value_count r = length r.values
 
 -- ---- a call that hands out no pieces
