@@ -5,16 +5,19 @@
     python3 tests/edits.py weaken [--all] [CRATE..]
 
 The first tries each edit of the crates that are named, or of every crate, in a copy. Wrong is an edit that the prover
-does not refuse; an edit under which a function that docs/PROMISES.md lists for it stays proved; and an edit that was
-refused only because a proof file no longer fits the code, since then nothing was found to be false.
-The last line is 'N edits, 0 wrong'.
+does not refuse; an edit under which a function that docs/PROMISES.md lists for it stays proved, or which the prover
+does not name; and an edit that was refused only because a proof file no longer fits the code, since then nothing was
+found to be false. A trait's method stands for that of each type that has the trait: it stays proved where all of them
+do. The last line is 'N edits, 0 wrong'.
 
-The second weakens a contract of each crate that is named, or of every crate, in a copy: one `ensures` of a public
-function becomes true of every result. It is noticed where a proof fails that is not the function's own, and that does
-not fail only because the function is not proved: the lemma in Once.antt, which says that any two results that are
-allowed coincide. The first `ensures` of a crate is weakened; with --all each of them, one after the other. It needs a
-repository that is proved (`rt check`), and proves nothing again but the crate. The last line is 'N weakened, 0
-unnoticed'.
+The second weakens a contract of each crate that is named, or of every crate, in a copy: one clause on the result of a
+public function or method, its `ensures` or what a conversion gives, becomes true of every result. A trait's method is
+weakened in the trait. It is noticed where a proof fails that is not the function's own, and that does not fail only
+because the function is not proved: the lemma in Once.antt, which says that any two results that are allowed coincide.
+The first clause of a crate is weakened; with --all each of them, one after the other. A function that is listed with a
+lemma, and of which no clause is found, counts as unnoticed. It needs a repository that is proved (`rt check`), and
+proves nothing again but the crate (of `rules`, whose lemmas stand in `promises`, all up to there). The last line is
+'N weakened, 0 unnoticed'.
 """
 import os
 import re
@@ -23,7 +26,7 @@ import subprocess
 import sys
 import tempfile
 
-from public import CRATES, TOP, libraries, listed, public_modules, text
+from public import CRATES, TOP, functions_of, lemmas_of, libraries, listed, proved_as, text
 
 # An error that only follows from another one.
 FOLLOWS = r"was not admitted|, which was rejected, w(as|ere) not checked"
@@ -41,6 +44,10 @@ MISFITS = (
 
 # The same in a law, which has no need to answer: its words are not in what it states any more.
 LAW_MISFIT = r"no occurrence of the path's"
+
+
+# What the prover says of a function that is proved.
+PROVED = ("proved", "proved where its callers give what it asks")
 
 
 # ---- what the prover said
@@ -82,7 +89,10 @@ def wrong_edit(said, functions):
         return
     states = states_in(said)
     for name in functions:
-        if states.get(name, "proved") == "proved":
+        found = [states[own] for own in proved_as(name) if own in states]
+        if not found:
+            yield f"{name} is not named by the prover"
+        elif all(state in PROVED for state in found):
             yield f"{name} stays proved"
     # an edit may rename a step, so that one answer does not fit, and be refused at another for what it says
     errors = list(errors_in(said))
@@ -117,20 +127,21 @@ def try_edits(crates):
 
 
 # ---- contracts weakened
-TRUE = "{ Unit {0} }"
+TRUE = "Unit {0}"
 
 
 def contracts(crate):
-    """Each `ensures` of a public function that has a lemma in Once.antt: its path, its file, where the text starts and ends."""
+    """Each clause on the result of a public function that is listed with a lemma: its name, its file, where the text starts and ends."""
     lemmas = {row[0]: row[1] for row in listed()}
-    for module in public_modules(crate):
-        source = text(CRATES, crate, "src", module + ".rt")
-        for found in re.finditer(r"^pub fn (\w+).*?^\}$", source, re.M | re.S):
-            path = ([] if module == "lib" else [module]) + [found.group(1)]
-            if not lemmas.get("::".join([crate, *path])):
-                continue
-            for clause in re.finditer(r"^    ensures (?:\w+ )?(\{.*\})$", found.group(), re.M):
-                yield path, module + ".rt", found.start() + clause.start(1), found.start() + clause.end(1)
+    for name, file, clauses in functions_of(crate):
+        for start, end in clauses if lemmas.get(name) else []:
+            yield name, file, start, end
+
+
+def without_contract(crate):
+    """The functions of the crate that are listed with a lemma, and of which no clause is found."""
+    found = {name for name, _, _, _ in contracts(crate)}
+    return [row[0] for row in listed() if row[1] and row[0].split("::")[0] == crate and row[0] not in found]
 
 
 def checked(top, crate):
@@ -139,13 +150,18 @@ def checked(top, crate):
     return ran.stdout
 
 
-def noticing(said, crate, path):
+def noticing(said, name):
     """The proofs that fail by themselves, but for the function's own."""
-    own = "/".join(["proofs", *path, ""])
+    own = ["/".join(["/proofs", *each.split("::")[1:], ""]) for each in proved_as(name)]
     for file, line in errors_in(said):
-        name = file.removeprefix("./")
-        if not name.startswith(own):
-            yield f"{name} ({line.split(':')[0]})"
+        file = file.removeprefix("./")
+        if not any(path in "/" + file for path in own):
+            yield f"{file} ({line.split(':')[0]})"
+
+
+def verdicts_in(said):
+    """What the prover said of each crate that it checked."""
+    return set(re.findall(r"^logic=(proved|not-proved)", said, re.M))
 
 
 def write(path, source):
@@ -155,19 +171,20 @@ def write(path, source):
 
 def weakened(top, crate, every):
     """Each contract that is weakened, with who notices it."""
-    found = list(contracts(crate))[:None if every else 1]
-    if found and not re.search(r"^logic=proved", checked(top, crate), re.M):
-        sys.exit(f"{crate} is not proved as it is")
-    for path, file, start, end in found:
+    home, _ = lemmas_of(crate)
+    found = list(contracts(crate))[: None if every else 1]
+    if found and verdicts_in(checked(top, home)) != {"proved"}:
+        sys.exit(f"{home} is not proved as it is")
+    for name, file, start, end in found:
         source = os.path.join(top, "crates", crate, "src", file)
         before = text(source)
         write(source, before[:start] + TRUE + before[end:])
-        said = checked(top, crate)
+        said = checked(top, home)
         write(source, before)
-        if not re.search(r"^logic=(not-)?proved", said, re.M):
+        if not verdicts_in(said):
             sys.exit(f"{crate}: {file} with a weaker contract did not reach the prover:\n{said[:2000]}")
         line = before.count("\n", 0, start) + 1
-        yield f"{'::'.join([crate, *path])} ({file}:{line})", sorted(set(noticing(said, crate, path)))
+        yield f"{name} ({file}:{line})", sorted(set(noticing(said, name)))
 
 
 def copied(top):
@@ -177,7 +194,9 @@ def copied(top):
 
 
 def weaken(crates, every):
-    wrong, count = [], 0
+    wrong, count = [name for crate in crates for name in without_contract(crate)], 0
+    for name in wrong:
+        print(f"{name}: no clause on its result is found", flush=True)
     with tempfile.TemporaryDirectory() as top:
         copied(top)
         for crate in crates:
