@@ -192,6 +192,12 @@ module _ (rest : List ℕ) where
   pub end_bound : {n end : ℕ} → digits_read rest ≡ Some (n, end) → end ≤ length rest
   end_bound e = omega (arith, (digits_read_lem e).1, end_within rest)
 
+  -- nothing of the field is left there, so the part after it begins there
+  pub after_read : {n end : ℕ} → digits_read rest ≡ Some (n, end) → after_field (drop end rest) ≡ drop end rest
+  after_read {n} {end} e =
+      let at : field_end rest ≡ end = (digits_read_lem e).1 in
+      same_part rest end (omega arith) ∙ ap (λ (k : ℕ). drop k rest) at
+
   module _ (k t : ℕ) where
     -- no digits, or no number's text
     pub next-not : digits_read rest ≡ None → next_read k (t ∷ rest) ≡ failing k

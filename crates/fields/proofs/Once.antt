@@ -9,10 +9,15 @@ use Rattle.rules.specs.Coincide.{Coincide, AnyTwo}
 use Rattle.rules.proofs.Told.{once}
 use Rattle.rules.proofs.Coincide.{both, value}
 use Rattle.fields.specs.contracts.field_end as field_end
+use Rattle.fields.specs.contracts.after_field as after-field
 use Rattle.fields.specs.contracts.next_field as next_field
 
 pub field_end_once : Coincide field_end.ended (λ M 𝓤 𝓛. field_end.clauses 𝓛)
 field_end_once w x g = value w
+
+-- every byte of the part of the line that is handed back
+pub after_field_once : AnyTwo after-field.ended (λ M 𝓤 𝓛. after-field.clauses 𝓛) (λ x. x.result.now ≡ x.result'.now)
+after_field_once w x g = both w (once _)
 
 -- what can be seen of a field that was read: its number and every byte of the part of the line that is handed back, or the field that does not read
 abbrev pub seen : Result (ℕ × Bor (List ℕ)) FailsAt → Result (ℕ × List ℕ) FailsAt
@@ -31,5 +36,5 @@ abbrev pub part : Result (ℕ × List ℕ) FailsAt → List ℕ
 part (Ok read) = read.1
 part (Err e) = []
 
-pub after_field_once : AnyTwo next_field.ended (λ M 𝓤 𝓛. next_field.clauses 𝓛) (λ x. part (seen x.result) ≡ part (seen x.result'))
-after_field_once w x g = both w (λ p q. ap part (once _ (seen_lem _ x.result p) (seen_lem _ x.result' q)))
+pub part_once : AnyTwo next_field.ended (λ M 𝓤 𝓛. next_field.clauses 𝓛) (λ x. part (seen x.result) ≡ part (seen x.result'))
+part_once w x g = both w (λ p q. ap part (once _ (seen_lem _ x.result p) (seen_lem _ x.result' q)))

@@ -1,8 +1,8 @@
 // The field reader. Fields are parted by one tab; each is a number, or it is told by its own number that it is none.
 #![tactic(auto)]
 
-ghost use Rattle.std.specs.Prelude.{◌≡◌, Ok, Err, MatchResult};
-ghost use Rattle.rules.specs.Lines.{field_end, leading_zero};
+ghost use Rattle.std.specs.Prelude.{◌≡◌, Ok, Err, MatchResult, drop};
+ghost use Rattle.rules.specs.Lines.{field_end, after_field, leading_zero};
 ghost use Rattle.fields.specs.Reading.{one_more, is_shaped, digits_read, next_read};
 
 use rules::calls::FailsAt;
@@ -14,10 +14,25 @@ pub fn field_end(s: &[u8]) -> usize
     s.iter().position(|b| *b == b'\t').unwrap_or(s.len())
 }
 
-// The number of the field that follows, and the part after it: "The field reader hands back the part of the line after
-// the field." A part begins with the tab of the field that follows, and is empty where the line ends. One pass over the
-// field finds its number and its end. It is field k of the line: "The field reader is to give the field where reading
-// failed."
+// "The field reader hands back the part of the line after the field", of the field that stands at place `at`: at any
+// place of a field it is the same part. It begins with the tab of the field that follows, and is empty where the line
+// ends. Where the field ends stands that tab, or the line ends: one look is all.
+pub fn after_field(s: &[u8], at: usize) -> &[u8]
+    ensures { result.now ≡ after_field (drop at s.now) }
+{
+    let Some(field) = s.get(at..) else {
+        return &[];
+    };
+    if let [b'\t', ..] = field {
+        return field;
+    }
+    let end = field_end(field);
+    &field[end..]
+}
+
+// The number of the field that follows, and the part after it. The part that is read begins with that field's tab. One
+// pass over the field finds its number and its end. It is field k of the line: "The field reader is to give the field
+// where reading failed."
 pub fn next_field(s: &[u8], k: u64) -> Result<(u64, &[u8]), FailsAt>
     ensures { MatchResult result (λ read. next_read k s.now ≡ Ok (read.0, read.1.now)) (λ e. next_read k s.now ≡ Err e) }
 {
@@ -27,8 +42,9 @@ pub fn next_field(s: &[u8], k: u64) -> Result<(u64, &[u8]), FailsAt>
     let Some((n, end)) = digits(text) else {
         return Err(FailsAt(k));
     };
-    let (field, rest) = text.split_at(end);
+    let (field, _) = text.split_at(end);
     if is_shaped(field) {
+        let rest = after_field(text, end);
         return Ok((n, rest));
     }
     Err(FailsAt(k))
