@@ -77,6 +77,14 @@ module _ {m now : Machine} {a b c : Option (List ℕ)} {chunk rest : List ℕ} (
       let part = part_wider b c (writes now (take n rest)) (writes (feeds now (take n rest)) (drop n rest)) whole h.part in
       record { part = subst (λ t. AppendsPart a c (writes m t)) f.cut (part_more m now a b c f.front f.fed rest part); all = λ e. absurd (false≢true e) }
 
+-- nothing of it is left: all that the read is answered is written
+pub front_whole : {m now : Machine} {a b : Option (List ℕ)} {chunk rest : List ℕ} → FrontFed m now a b chunk rest → length rest ≡ 0 → Wrote a b (writes m chunk) true
+front_whole {m} {now} {a} {b} {chunk} {rest} f e = go rest f.cut e
+  where
+    go : (left : List ℕ) → f.front ++ left ≡ chunk → length left ≡ 0 → Wrote a b (writes m chunk) true
+    go [] c z = wrote_all a b (writes m chunk) true (subst (λ t. Appends a b (writes m t)) (sym (append-nil f.front) ∙ c) f.fed.wrote)
+    go (x ∷ left) c z = absurd (omega (arith, z))
+
 -- ---- what a read gave
 pub given_consumed : (a b : Option (List ℕ)) (got : Result ℕ Error) (input : List ℕ) → ReadConsumes a b got input → Consumes a b (given got input)
 given_consumed a b (Ok n) input h = h.0

@@ -1,15 +1,15 @@
 -- Words for what carries the demands to the code: the calls that an input makes, and a chain of reads as the contracts of the book runner's functions have it. What is promised of them stands in Promises.
-use Rattle.std.specs.Prelude.{ℕ, ◌≤◌, ◌≡◌, List, [], ◌∷◌, ◌++◌, length, take, Ok, Err}
+use Rattle.std.specs.Prelude.{ℕ, ◌≡◌, List, [], ◌∷◌, ◌++◌, length, take, Ok, Err}
 use Rattle.promises.specs.Types.{Nonce, Lot, Desk, Call, Line, Answer}
-use Rattle.rules.specs.Limits.{inbox_rows, outbox_rows, history_rows, most_held}
+use Rattle.rules.specs.Limits.{inbox_rows, outbox_rows, history_rows}
 use Rattle.rules.specs.Lists.{those, joined}
 use Rattle.rules.specs.Tables.{deposit_shape, payment_shape, record_shape}
-use Rattle.rules.specs.State.{Book, desk_of, empty_state, blank}
+use Rattle.rules.specs.State.{Book, blank}
 use Rattle.rules.specs.Transcript.{InputLine, input_lines, read_input, transcript}
 use Rattle.rules.specs.Answer.{answer, book_of, outcome_of, trace_answer}
 use Rattle.history.specs.Tracing.{trace_outcome_of}
 use Rattle.pages.specs.Writing.{page}
-use Rattle.runner.specs.Machine.{Machine, Counted, machine_with, start, feeds}
+use Rattle.runner.specs.Machine.{Machine, Counted, FewHeld, machine_with, begun, begun_desk, start, feeds}
 use Rattle.runner.specs.Kept.{Kept, on_page, RunSome}
 
 -- ---- the calls of an input
@@ -42,19 +42,19 @@ Beginning input text = (more : List ℕ) → take (length text) (transcript (inp
 -- ---- the book runner as code, by its contracts (crate runner, specs/Kept). What it keeps is a session and its book, which a contract sees together as a machine, and a page
 -- a new session, as the contract of `Session::new` has it, beside its book
 abbrev pub opened : Book → Machine
-opened b = machine_with (record { tally = record { done = 0; other = 0 }; line = 1; held = [] }) b
+opened b = machine_with begun b
 
 -- the beginning: the desk that `empty_desk` hands back, by its contract, and tables of zeros; a new session beside this book; and any page on which nothing is written
 pub record Begun (k : Kept) : Type 0 where
   pub desk : Desk
-  pub empty : desk ≡ desk_of empty_state
+  pub empty : desk ≡ begun_desk
   pub session : k.machine ≡ opened (book_of desk (blank deposit_shape inbox_rows) (blank payment_shape outbox_rows) (blank record_shape history_rows))
   pub upto : k.page.upto ≡ 0
 
 -- what a session is by its type: no count has passed the lines that were answered, and at most 121 bytes are held
 pub record Ready (m : Machine) : Type 0 where
   pub counted : Counted m.tally m.line
-  pub held : length m.held ≤ most_held
+  pub held : FewHeld (length m.held)
 
 -- the page is given out, and the same page or another is written from its beginning
 abbrev pub turned : Kept → List ℕ → Kept

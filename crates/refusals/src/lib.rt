@@ -5,10 +5,11 @@ ghost use Rattle.std.specs.Prelude.{◌≡◌, true};
 ghost use Rattle.rules.specs.Replies.{told, plainly, plain};
 ghost use Rattle.rules.specs.Frame.{in_frame};
 ghost use Rattle.rules.specs.Answer.{reply_number};
+ghost use Rattle.refusals.specs.Said.{is_sign, says_all};
 
 use desk::answers::refuse;
 use frames::in_frame;
-use rules::answers::Refusal;
+use rules::answers::{Answer, Refusal};
 use rules::book::BookView;
 use rules::calls::Call;
 use rules::limits::HISTORY_ROWS;
@@ -58,4 +59,20 @@ fn table_reply(book: &BookView, c: Call) -> Result<(), Refusal>
             history::refusals::history_reply(book.history, counts.records, rows, rows, n)
         }
     }
+}
+
+// Whether the number is all that the call comes to: where it is refused, and where it is a sign, nothing is changed,
+// handed out or told beside it.
+#[tactic(auto, unfolding(crate::specs::Said::says_all))]
+pub fn says_all(c: Call, a: Answer) -> bool
+    ensures { result ≡ says_all c a }
+{
+    a.is_err() || is_sign(c)
+}
+
+#[tactic(auto, unfolding(crate::specs::Said::is_sign))]
+fn is_sign(c: Call) -> bool
+    ensures { result ≡ is_sign c }
+{
+    matches!(c, Call::Sign(_))
 }

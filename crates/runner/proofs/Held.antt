@@ -5,17 +5,17 @@ use mathlib.Core.Bool.{Bool, true, false, cond}
 use mathlib.Core.List.{List, [], ◌∷◌, ◌++◌, append-nil, append_assoc}
 use native.Mathlib.Omega.{arith}
 use lib.Dec.{ltb, eqb}
-use lib.ListN.{length, take, length-append}
-use lib.Seq.{take_all, take_at, length-take-le, take-append-add}
-use Rattle.std.proofs.lemmas.List.{take_min}
-use Rattle.std.proofs.lemmas.Slice.{take-put_mid}
-use borrow.Rule.Slice.PartMut.{put_mid}
+use lib.ListN.{length, take, drop, replicate, length-append, length-drop}
+use lib.Seq.{take_all, take_at, length-take-le, take-append-add, drop-drop}
+use Rattle.std.proofs.lemmas.List.{take_min, drop-replicate}
+use Rattle.std.proofs.lemmas.Slice.{take-put_mid, drop-put_mid}
+use borrow.Rule.Slice.PartMut.{mid_of, put_mid, same_len_mid}
 use Rattle.std.proofs.Common.{min}
 use borrow.Author.Tests.{ltb-true, ltb-false, eqb-true}
 use Rattle.rules.specs.Limits.{most_held}
 use Rattle.rules.specs.Lines.{read_line}
 use Rattle.lines.proofs.Held.{line-held}
-use Rattle.runner.specs.Machine.{held_with, holds}
+use Rattle.runner.specs.Machine.{HeldIn, held_with, holds}
 
 pub first_held : (before bs : List ℕ) → length before ≤ most_held → holds before bs ≡ take most_held (before ++ bs)
 unfolding holds held_with
@@ -52,3 +52,20 @@ extended bytes part new len n l h m e =
     ∙ sym (take-append-add (take len bytes) part (most_held - len))
     ∙ ap (λ (k : ℕ). take k (take len bytes ++ part)) (sym full)
     ∙ sym (first_held (take len bytes) part (omega arith))
+
+-- and past them are zeros as before
+pub extended_rest : (bytes part new : List ℕ) (len n : ℕ) → HeldIn bytes len → n ≡ min (length part) (most_held - len) → new ≡ take n part → HeldIn (put_mid len (len + n - len) bytes new) (len + n)
+extended_rest bytes part new len n h m e =
+    let few : length new ≡ n = rw e (length-take-le n part (omega arith)) in
+    let fits : length new ≡ len + n - len = omega arith in
+    let over : length (mid_of len (len + n - len) bytes) ≡ len + n - len = length-take-le (len + n - len) (drop len bytes) (omega (arith, length-drop len bytes, h.few, h.size, m)) in
+    record {
+      few = omega (arith, h.few, m);
+      size = same_len_mid len (len + n - len) bytes new (fits ∙ sym over) ∙ h.size;
+      rest =
+          drop-put_mid len (len + n - len) bytes new (len + n) (omega arith) (omega (arith, h.few, h.size)) fits
+          ∙ sym (drop-drop n len bytes)
+          ∙ ap (drop n) h.rest
+          ∙ drop-replicate n (most_held - len) 0
+          ∙ ap (λ (k : ℕ). replicate k 0) (omega arith);
+    }

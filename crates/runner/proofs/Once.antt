@@ -7,14 +7,16 @@ use Rattle.rules.specs.State.{empty_book}
 use Rattle.rules.specs.Lent.{lent_book, SameTables}
 use Rattle.rules.proofs.Told.{once}
 use Rattle.rules.proofs.Lent.{same_tables}
-use Rattle.rules.proofs.Coincide.{one, joined, from_each, value, first}
+use Rattle.rules.proofs.Coincide.{one, joined, from_each, both, value, first}
 use Rattle.pages.specs.Lent.{SamePage}
 use Rattle.runner.specs.Machine.{Machine, Progress}
 use Rattle.runner.specs.Kept.{Kept, RunSome}
 use Rattle.runner.specs.contracts.feed.run_some as run-some
 use Rattle.runner.specs.contracts.feed.close as close
 use Rattle.runner.specs.contracts.hold.Held.new as none-held
+use Rattle.runner.specs.contracts.hold.Held.is_empty as is-empty
 use Rattle.runner.specs.contracts.hold.Held.extend as extend
+use Rattle.runner.specs.contracts.hold.Held.as_slice as as-slice
 use Rattle.runner.specs.contracts.session.Session.new as new
 use Rattle.runner.specs.contracts.session.Session.is_stopped as is-stopped
 use Rattle.runner.specs.contracts.session.empty_desk as empty-desk
@@ -66,6 +68,12 @@ empty_desk_once w x g = value w
 -- ---- what is held of a line: the bytes that belong to it. Those of its buffer past them no contract sees
 pub none_held_once : Coincide none-held.ended (λ M 𝓤 𝓛. none-held.clauses 𝓛)
 none_held_once w x g = value w
+
+pub is_empty_once : Coincide is-empty.ended (λ M 𝓤 𝓛. is-empty.clauses 𝓛)
+is_empty_once w x g = value w
+
+pub as_slice_once : AnyTwo as-slice.ended (λ M 𝓤 𝓛. as-slice.clauses 𝓛) (λ x. x.result.now ≡ x.result'.now)
+as_slice_once w x g = both w (once _)
 
 pub extend_once : Coincide extend.ended (λ M 𝓤 𝓛. extend.clauses 𝓛)
 extend_once w x g = first w

@@ -1,9 +1,10 @@
 -- The book runner as a machine that is fed one byte at a time, so that it does not matter how the input is cut into reads.
-use Rattle.std.specs.Prelude.{ℕ, ◌+◌, ◌≤◌, ◌<◌, Bool, cond, List, [], ◌∷◌, ◌++◌, ltb, eqb, length}
+use Rattle.std.specs.Prelude.{ℕ, ◌+◌, ◌-◌, ◌≤◌, ◌<◌, ◌≡◌, Bool, cond, List, [], ◌∷◌, ◌++◌, ltb, eqb, length, drop, replicate}
 use Rattle.rules.specs.Types.{Line}
 use Rattle.rules.specs.declared.answers.Tally.{Tally}
+use Rattle.rules.specs.declared.desk.Desk.{Desk}
 use Rattle.rules.specs.Limits.{most_held, most_lines}
-use Rattle.rules.specs.State.{Book, empty_book}
+use Rattle.rules.specs.State.{Book, desk_of, empty_state, empty_book}
 use Rattle.rules.specs.Answer.{Outcome}
 use Rattle.rules.specs.Lines.{line_feed, read_whole, unread, read_line}
 use Rattle.rules.specs.Transcript.{answer_line, reply_text, tallied, end_text}
@@ -30,6 +31,23 @@ pub record Counted (tally : Tally) (line : ℕ) : Type 0 where
   pub done : tally.done < line
   pub other : tally.other < line
   pub few : line ≤ 100001
+
+-- of a line no more bytes are held than tell its field
+abbrev pub FewHeld : ℕ → Type 0
+FewHeld n = n ≤ most_held
+
+-- the buffer of the bytes that are held, the first so many of it: past them are zeros, so that they alone tell the whole of it
+pub record HeldIn (bytes : List ℕ) (len : ℕ) : Type 0 where
+  pub few : FewHeld len
+  pub size : length bytes ≡ most_held
+  pub rest : drop len bytes ≡ replicate (most_held - len) 0
+
+-- the beginning: no line answered, no byte held, and the desk of the empty state
+abbrev pub begun : Progress
+begun = record { tally = record { done = 0; other = 0 }; line = 1; held = [] }
+
+abbrev pub begun_desk : Desk
+begun_desk = desk_of empty_state
 
 unfoldable pub start : Machine
 start = record { book = empty_book; tally = record { done = 0; other = 0 }; line = 1; held = [] }

@@ -1,8 +1,7 @@
 // What is kept between reads beside the book: with the book it is the machine of the definitions (`machine_with`).
-ghost use Rattle.std.specs.Prelude.{◌≡◌, [], ltb};
+ghost use Rattle.std.specs.Prelude.{◌≡◌, ltb};
 ghost use Rattle.rules.specs.Limits.{most_lines};
-ghost use Rattle.runner.specs.Machine.{holds};
-ghost use Rattle.rules.specs.State.{desk_of, empty_state};
+ghost use Rattle.runner.specs.Machine.{holds, begun, begun_desk};
 
 use crate::hold::Held;
 use rules::answers::Tally;
@@ -14,7 +13,7 @@ const MOST_LINES: u64 = 100_000;
 
 // The tally, the number of the line that comes next, and the bytes of it that came so far: what a session keeps beside
 // its book. No count has passed the lines that were answered, so none can wrap.
-#[derive(Drop)]
+#[derive(Clone, Copy)]
 pub struct Session {
     pub tally: Tally,
     pub line: u64,
@@ -29,12 +28,14 @@ impl Model for Session {
     ghost view = { λ s. record { tally = s.tally; line = s.line; held = s.held } };
 
     ghost invariant = { λ s. Counted s.tally s.line };
+
+    ghost inverse = { λ p. record { tally = p.tally; line = p.line; held = p.held } };
 }
 
 impl Session {
     // The start of a session: no line answered, no byte held.
     pub fn new() -> Session
-        ensures { result ≡ record { tally = record { done = 0; other = 0 }; line = 1; held = [] } }
+        ensures { result ≡ begun }
     {
         Session {
             tally: Tally::default(),
@@ -61,7 +62,7 @@ impl Session {
 // "All balances, totals and counts 0, last deposit number 0, next nonce 0, and member 1 holding every domain."
 #[tactic(auto, unfolding(rules::specs::State::desk_of, rules::specs::State::first_holders, rules::specs::State::empty_state))]
 pub fn empty_desk() -> Desk
-    ensures { result ≡ desk_of empty_state }
+    ensures { result ≡ begun_desk }
 {
     Desk {
         balances: [0; 128],

@@ -13,7 +13,7 @@ use Rattle.rules.specs.Answer.{reply_number, outcome_of, answer}
 use Rattle.rules.specs.Facts.{Accepted}
 use Rattle.desk.proofs.Books.{refuses, accepts}
 use Rattle.steps.proofs.Steps.{value_count, signed}
-use Rattle.steps.specs.Said.{is_sign, says_all}
+use Rattle.refusals.specs.Said.{is_sign, says_all}
 
 module _ (b : Book) where
   sign_said : (c : Call) → Accepted b c → is_sign c ≡ true → outcome_of (Ok Done.Plain) b ≡ answer b c

@@ -1,7 +1,7 @@
 // One call of the nine: answered, its reply's line written, and counted.
 ghost use Rattle.std.specs.Prelude.{◌≡◌, ◌≤◌, false, Ok};
 ghost use Rattle.rules.specs.Facts.{Accepted};
-ghost use Rattle.rules.specs.Replies.{told, plainly, plain};
+ghost use Rattle.rules.specs.Replies.{told, plain};
 ghost use Rattle.rules.specs.Answer.{answer, outcome_of, reply_number};
 ghost use Rattle.rules.specs.Transcript.{tallied};
 ghost use Rattle.rules.specs.Lent.{lent_book, SameTables};
@@ -13,29 +13,31 @@ ghost use Rattle.steps.specs.Step.{is_trace, replied_of, replied};
 use crate::tally::raise;
 use crate::traced::put_trace;
 use pages::Page;
-use refusals::call_reply;
+use refusals::{call_reply, says_all};
 use replies::{put_reply_line, reply_number};
-use rules::answers::{Answer, Done, Refusal, Tally};
+use rules::answers::{Answer, Done, Tally};
 use rules::book::{Book, BookView};
 use rules::calls::Call;
 
-// "A read line is one of nine calls": what refuses it is asked first, and where nothing does it is done. It answers the
-// reply's number, because the tally counts by it (`tallied`). Book, page and line are three parameters: each comes from
-// another owner, and a caller of the library lends them one by one.
+// "A read line is one of nine calls": what refuses it is asked first. Where the number is all that it comes to, the
+// book stays where it lies; any other call is done. It answers the reply's number, because the tally counts by it
+// (`tallied`). Book, page and line are three parameters: each comes from another owner, and a caller of the library
+// lends them one by one.
 pub fn step(book: &mut Book, page: &mut Page, line: u64, c: Call) -> u64
     ensures replied { replied_of result (lent_book book.new) (page_of page.new) ≡ replied line (page_of page.old) (answer (lent_book book.old) c) }
     ensures tables { SameTables book.old book.new }
     ensures buffer { SameBuffer page.old page.new }
 {
-    match reply_of(book, c) {
-        Err(why) => put_answered(page, line, Err(why)),
-        Ok(()) => step_done(book, page, line, c),
+    let answer = reply_of(book, c);
+    if says_all(c, answer) {
+        return put_answered(page, line, answer);
     }
+    step_done(book, page, line, c)
 }
 
-// What refuses the call, if anything does.
-fn reply_of(book: &Book, c: Call) -> Result<(), Refusal>
-    ensures { told (plainly result) ≡ plain (reply_number (lent_book book.now) c) }
+// The call's reply: what refuses it, if anything does.
+fn reply_of(book: &Book, c: Call) -> Answer
+    ensures { told result ≡ plain (reply_number (lent_book book.now) c) }
 {
     let view = BookView {
         desk: book.desk,
@@ -43,7 +45,8 @@ fn reply_of(book: &Book, c: Call) -> Result<(), Refusal>
         outbox: book.outbox,
         history: book.history,
     };
-    call_reply(&view, c)
+    call_reply(&view, c)?;
+    Ok(Done::Plain)
 }
 
 // "One tally, handed to each step and updated there": raised once, by the number of the step's reply.

@@ -1,15 +1,14 @@
-use Rattle.std.proofs.Common.{◌≡◌, [], refl, replicate}
+use Rattle.std.proofs.Common.{◌≡◌, refl, replicate}
 use Rattle.rules.specs.declared.desk.Desk.{Desk}
-use Rattle.rules.specs.State.{desk_of, empty_state, empty_book}
+use Rattle.rules.specs.State.{empty_book}
 use Rattle.rules.specs.Answer.{book_of}
-use Rattle.runner.specs.Machine.{Progress, machine_with, start}
+use Rattle.runner.specs.Machine.{Progress, machine_with, begun, begun_desk, start}
 use Rattle.program.specs.Turns.{Session}
 use Rattle.program.proofs.Turns.{session-transcript}
 use Rattle.program.proofs.run.Goals as goal
 
 -- tables of zeros are those of the empty book
-begins : (d : Desk) {p : Progress} → d ≡ desk_of empty_state → p ≡ record { tally = record { done = 0; other = 0 }; line = 1; held = [] }
-    → machine_with p (book_of d (replicate 256 0) (replicate 128 0) (replicate 5120 0)) ≡ start
+begins : (d : Desk) {p : Progress} → d ≡ begun_desk → p ≡ begun → machine_with p (book_of d (replicate 256 0) (replicate 128 0) (replicate 5120 0)) ≡ start
 unfolding start empty_book
 begins d e h = rw (e, h) refl
 

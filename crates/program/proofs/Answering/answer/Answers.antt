@@ -1,6 +1,6 @@
-use Rattle.std.proofs.Common.{◌∙◌, sym, ap, is_ok}
+use Rattle.std.proofs.Common.{rules, ◌∙◌, sym, ap, is_ok}
 use Rattle.pages.specs.Lent.{page_of}
-use Rattle.program.proofs.Turns.{room_keeps, page_text, front_fed, front_short}
+use Rattle.program.proofs.Turns.{room_keeps, page_text, front_fed, front_whole, front_short}
 use Rattle.program.proofs.Answering.answer.Goals as goal
 
 pub returns-in_err-map_err-clause-wrote : goal.returns-in_err-map_err-clause-wrote
@@ -21,3 +21,9 @@ loop-rest-preserved g c =
       room = room_keeps _ _ _ _ c.clear.ensures.cleared r.ensures.ran.page c.loop-rest.invariant.room;
       so_far = front_fed c.loop-rest.invariant.so_far r.result r.ensures.ran.machine (rw shown at c.write_all.ensures.all went);
     }
+
+pub returns-then-is_stopped-clause-wrote : goal.returns-then-is_stopped-clause-wrote
+returns-then-is_stopped-clause-wrote g c = front_whole c.loop-rest.invariant.so_far (search rules)
+
+pub returns-clause-wrote : goal.returns-clause-wrote
+returns-clause-wrote g c = front_whole c.loop-rest.invariant.so_far (search rules)
