@@ -49,7 +49,7 @@ pub fn deposit(
         outbox,
         history,
     });
-    refuse(!is_framed, Refusal::BadBook)?;
+    refuse(!is_framed, Refusal::BadBook)?; // a deposit's reply 2
     let counts = desk.counts;
     deposit_reply(&desk.lifetime, counts.last, counts.unclaimed, x)?;
     deposit_done(desk, inbox, outbox, history, x);
@@ -133,7 +133,7 @@ pub fn claim(
         outbox,
         history,
     });
-    refuse(!is_framed, Refusal::BadBook)?;
+    refuse(!is_framed, Refusal::BadBook)?; // a claim's reply 2
     let waits = is_unclaimed(inbox, desk.counts.unclaimed, c);
     claim_reply(waits, desk.counts.records, c)?;
     claim_done(desk, inbox, outbox, history, c);

@@ -113,13 +113,16 @@ unfolding debit
 sent d t p = rw (balance-set d.balances t.from t.asset _ p.from p.asset)
 
 -- none of them is above the ceiling
-pub sent_low : (d : Desk) (t : TransferFields) → CanTransfer d t → balance (debit d.balances t.from t.asset t.amount) t.to t.asset ≤ ceiling
+pub sent_low : (d : Desk) (t : TransferFields) → CanTransfer d t → all up_to_ceiling (debit d.balances t.from t.asset t.amount) ≡ true
 unfolding debit
 sent_low d t c =
     let low : balance d.balances t.from t.asset ≤ ceiling = balance-low d.balances t.from t.asset c.balances in
-    balance-low (debit d.balances t.from t.asset t.amount) t.to t.asset
-    (all_set up_to_ceiling d.balances ((t.from - 1) * 8 + (t.asset - 1)) (balance d.balances t.from t.asset - t.amount) c.balances
-    (le-leb (balance d.balances t.from t.asset - t.amount) ceiling (omega arith)))
+    all_set up_to_ceiling d.balances ((t.from - 1) * 8 + (t.asset - 1)) (balance d.balances t.from t.asset - t.amount) c.balances
+    (le-leb (balance d.balances t.from t.asset - t.amount) ceiling (omega arith))
+
+-- so the receiver's is not
+pub receiver_low : (d : Desk) (t : TransferFields) → CanTransfer d t → balance (debit d.balances t.from t.asset t.amount) t.to t.asset ≤ ceiling
+receiver_low d t c = balance-low (debit d.balances t.from t.asset t.amount) t.to t.asset (sent_low d t c)
 
 -- ---- grant
 abbrev pub grant_entries : List ℕ → ℕ → GrantFields → List Entry
@@ -217,7 +220,7 @@ pub ruleset transfer_call = (refuses, unframed_reply, transfer_met, transfer_acc
 
 pub ruleset transfer_done = (can_transfer, transfer_lays)
 
-pub ruleset balances_moved = (balance-low, balance-set, sent, sent_low)
+pub ruleset balances_moved = (balance-low, balance-set, sent, receiver_low)
 
 pub ruleset grant_call = (refuses, unframed_reply, grant_met, grant_accepted)
 

@@ -45,7 +45,7 @@ pub fn transfer(
         outbox,
         history,
     });
-    refuse(!is_framed, Refusal::BadBook)?;
+    refuse(!is_framed, Refusal::BadBook)?; // a transfer's reply 2
     transfer_reply(&desk.balances, desk.counts.records, t)?;
     transfer_done(desk, inbox, outbox, history, t);
     Ok(())
@@ -118,7 +118,7 @@ pub fn grant(
         outbox,
         history,
     });
-    refuse(!is_framed, Refusal::BadBook)?;
+    refuse(!is_framed, Refusal::BadBook)?; // a grant's reply 2
     grant_reply(&desk.holders, desk.counts.records, g)?;
     grant_done(desk, inbox, outbox, history, g);
     Ok(())

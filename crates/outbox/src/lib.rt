@@ -50,7 +50,7 @@ pub fn withdraw(
         outbox,
         history,
     });
-    refuse(!is_framed, Refusal::BadBook)?;
+    refuse(!is_framed, Refusal::BadBook)?; // a withdrawal's reply 2
     withdraw_reply(&desk.balances, desk.counts.payments, desk.counts.records, w)?;
     withdraw_done(desk, inbox, outbox, history, w);
     Ok(())
@@ -132,7 +132,7 @@ pub fn send(
         outbox,
         history,
     });
-    refuse(!is_framed, Refusal::BadBook)?;
+    refuse(!is_framed, Refusal::BadBook)?; // a send's reply 2
     send_reply(count_waiting(desk.counts.payments, desk.counts.inflight))?;
     Ok(send_done(desk, inbox, outbox, history))
 }
@@ -181,7 +181,7 @@ pub fn settle(
         outbox,
         history,
     });
-    refuse(!is_framed, Refusal::BadBook)?;
+    refuse(!is_framed, Refusal::BadBook)?; // a settlement's reply 2
     settle_reply(desk.counts.inflight, first_nonce(outbox), n)?;
     settle_done(desk, inbox, outbox, history, n);
     Ok(())

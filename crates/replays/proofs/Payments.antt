@@ -9,7 +9,10 @@ use lib.Dec.{leb, eqb}
 use lib.ListN.{length, get_or, take, drop, length-append}
 use lib.Seq.{drop-drop, take-append_seam, get_or-append_seam}
 use borrow.Author.Tests.{ne_eqb, le-leb, lt-leb, leb-true, leb-false}
-use Rattle.std.specs.List.{filter, range_with_len}
+use Rattle.std.specs.List.{filter, range_with_len, slice_get}
+use Rattle.std.proofs.Common.{Option}
+use Rattle.std.specs.Option.{unwrap_or}
+use Rattle.std.proofs.lemmas.Option.{unwrap_or-slice_get}
 use Rattle.rules.specs.declared.rows.Record.{Record}
 use Rattle.rules.specs.declared.rows.Lot.{Lot}
 use Rattle.rules.specs.Lists.{those}
@@ -58,6 +61,11 @@ module _ (t : List ℕ) (records : ℕ) where
 
   pub payment-nth : (n : ℕ) → get_or (paying 0 records) n records ≡ length (before_payment n (rows_of record_shape records t))
   payment-nth n = payment_from records 0 n (omega arith) ∙ rw (rest_all record_shape records t) (omega arith)
+
+  -- so is the one that is asked for by the number k, where that is n
+  pub payment_found : {k : ℕ} (n : ℕ) (o : Option ℕ) → o ≡ slice_get (paying 0 records) k → k ≡ n → unwrap_or o records ≡ length (before_payment n (rows_of record_shape records t))
+  payment_found {k} n o e h =
+      ap (λ (x : Option ℕ). unwrap_or x records) e ∙ unwrap_or-slice_get (paying 0 records) k records ∙ ap (λ (m : ℕ). get_or (paying 0 records) m records) h ∙ payment-nth n
 
 -- ---- whether there is one
 -- where there are no more withdrawals than n, all records come before it

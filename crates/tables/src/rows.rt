@@ -135,7 +135,9 @@ pub fn get<R: Row>(table: &[u64], n: usize) -> R
 fn numbers_at<const N: usize>(table: &[u64], at: usize) -> [u64; N]
     ensures { result ≡ padded N (drop at table.now) }
 {
-    let rest = &table[at.min(table.len())..];
+    let Some(rest) = table.get(at..) else {
+        return [0; N];
+    };
     if let Some(whole) = rest.first_chunk::<N>() {
         return *whole;
     }

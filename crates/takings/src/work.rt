@@ -1,9 +1,10 @@
-// A taking from a line, and pieces that join the end. The loops only read a row, ask what becomes of it, and append.
+// A taking from a line, and pieces that join the end. The loops only read a row, ask what becomes of it, and append; the
+// rows that are left move up in one move.
 ghost use Rattle.std.specs.Prelude.{◌≡◌, map, ◌<◌, take};
 ghost use Rattle.rules.specs.Lots.{of_member};
 ghost use Rattle.takings.specs.Working.{cut_of, CanTake, TakesFrom, appended};
 
-use crate::rows::append;
+use crate::rows::{append, lot_at};
 use rules::rows::Lot;
 
 // How far a taking from a line is: what is still due, how many rows stay so far, and how many pieces
@@ -105,7 +106,7 @@ pub fn take_from(
                 ..s
             };
         }
-        let c = cut_lot(work[i], i, member, asset, s);
+        let c = cut_lot(lot_at(work, i), i, member, asset, s);
         if let Some(piece) = c.piece {
             append(held, s.taken, piece);
         }

@@ -1,5 +1,4 @@
-use Rattle.rules.specs.Lots.{no_lot}
-use Rattle.std.proofs.Common.{get_or, refl, ◌≡◌, ◌∙◌, Option, ap, sym, arith}
+use Rattle.std.proofs.Common.{◌≡◌, ◌∙◌, Option, ap, sym, arith}
 use mathlib.Core.Logic.{◌⊎◌, inl, inr}
 use Rattle.std.specs.List.{copy_within}
 use borrow.Author.Tests.{ne_eqb}
@@ -26,7 +25,7 @@ loop-i-preserved c =
       | in_default-rest w ↦ w.work-is ∙ ap (λ (o : Option Lot). written o l.s.kept l.work) (sym w.in_default-rest.is)
     ] in
     going_on a.member a.asset a.amount a.used a.work.now a.held.now c.requires l.i l.s l.work l.held l.invariant l.auto.work l.auto.held
-    (omega arith) (ne_eqb l.s.due 0 c.if-s-eq0.false) (get_or l.work l.i no_lot) refl r c.cut_lot-c.ensures c.match-c.held c.match-c-2.work hs ws
+    (omega arith) (ne_eqb l.s.due 0 c.if-s-eq0.false) c.lot_at.result c.lot_at.ensures r c.cut_lot-c.ensures c.match-c.held c.match-c-2.work hs ws
 
 -- nothing is due any more, and the rows left move up
 pub returns-then-s-eq0 : goal.returns-then-s-eq0
